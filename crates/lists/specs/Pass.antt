@@ -1,0 +1,52 @@
+-- A pass over the first elements of an array, seen through a view `s` of one element: `ws` is the array now, `vs` the array at first,
+-- `w` where the next is written, `i` where the next is read, and `ys` the view of what stands at the front.
+-- With w ≡ i it is a map in place; with w ≤ i it packs what it keeps.
+use mathlib.Core.Path.{_≡_, refl, ap, sym, _∙_}
+use mathlib.Core.List.{List, [], _∷_, _++_, map, append-assoc, map-append}
+use Prim.Native.Nat.{ℕ, zero, suc, _+_, _-_, _≤_, _<_}
+use native.Mathlib.Numerals.{add-one}
+use native.Mathlib.Omega.{arith}
+use lib.ListN.{length, take, drop, getD, set, length-set}
+use lib.Seq.{take-suc-set, drop-set-lt, getD-drop, drop-drop}
+use Rattle.lists.specs.Prefix.{take-more}
+
+module _ {A : Type 0} where
+  drop-next : (i : ℕ) (ws vs : List A) → drop i ws ≡ drop i vs → drop (i + 1) ws ≡ drop (i + 1) vs
+  drop-next i ws vs e = sym (drop-drop 1 i ws) ∙ ap (drop 1) e ∙ drop-drop 1 i vs
+
+module _ {A B : Type 0} where
+  pub record Pass (s : A → B) (ys : List B) (w i : ℕ) (ws vs : List A) : Type 0 where
+    pub front : map s (take w ws) ≡ ys
+    pub back : drop i ws ≡ drop i vs
+    pub size : length ws ≡ length vs
+    pub order : w ≤ i
+
+  module _ {s : A → B} {ys : List B} {w i : ℕ} {ws vs : List A} where
+    pub pass-read : (d : A) → Pass s ys w i ws vs → getD ws i d ≡ getD vs i d
+    pass-read d p =
+        let l : getD (drop i ws) 0 d ≡ getD ws i d = getD-drop i ws 0 d ∙ ap (λ (n : ℕ). getD ws n d) (omega arith) in
+        let r : getD (drop i vs) 0 d ≡ getD vs i d = getD-drop i vs 0 d ∙ ap (λ (n : ℕ). getD vs n d) (omega arith) in
+        sym l ∙ ap (λ (l : List A). getD l 0 d) (p .back) ∙ r
+
+    pub pass-skip : Pass s ys w i ws vs → Pass s ys w (i + 1) ws vs
+    pass-skip p = record { front = p .front; back = drop-next i ws vs (p .back); size = p .size; order = omega arith }
+
+    pub pass-keep : (a : A) (b : B) → s a ≡ b → Pass s ys w i ws vs → i < length vs
+      → Pass s (ys ++ (b ∷ [])) (w + 1) (i + 1) (set ws w a) vs
+    pass-keep a b e p h =
+        let in-ws : w < length ws = omega arith in
+        record {
+          front = rw (add-one, take-suc-set ws w a, map-append, p .front, e);
+          back = drop-set-lt (i + 1) ws w a (omega arith) ∙ drop-next i ws vs (p .back);
+          size = length-set ws w a ∙ p .size;
+          order = omega arith;
+        }
+
+  pub pass-start : (s : A → B) (vs : List A) → Pass s [] 0 0 vs vs
+  pass-start s vs = record { front = refl; back = refl; size = refl; order = omega arith }
+
+module _ {A B C : Type 0} where
+  -- the view of one more element, through a function on views
+  pub maps-more : (g : B → C) (s : A → B) (xs : List A) (i : ℕ) (d : A) → i < length xs
+    → map g (map s (take (i + 1) xs)) ≡ map g (map s (take i xs)) ++ (g (s (getD xs i d)) ∷ [])
+  maps-more g s xs i d h = rw (take-more xs i d, map-append s, map-append g)

@@ -1,0 +1,97 @@
+-- How often a number stands in a list: lists that agree on it are permutations of one another, and one in which no number stands twice has no repeats.
+use mathlib.Core.Path.{_≡_, refl, ap, sym, _∙_}
+use mathlib.Core.Bool.{Bool, true, false, _&&_}
+use mathlib.Core.List.{List, [], _∷_, _++_, List·Memᴰ, List·Memᴰ·head, List·Memᴰ·tail, List·Mem, List·Nodup, nodup-nil, nodup-cons, Perm, Perm·nil, Perm·cons, Perm·trans, Perm·symm, perm-middle}
+use mathlib.Core.Logic.{∥∥₁-elim}
+use Prim.Native.Nat.{ℕ, zero, suc, _+_, _≤_, _<_}
+use native.Mathlib.Omega.{arith}
+use native.Mathlib.Bridge.{le-prop}
+use borrow.Author.Tests.{eqb-true, eq-eqb, ne-eqb}
+use lib.Dec.{eqb}
+use Rattle.lists.specs.Count.{oneIf, count, count-append}
+
+-- how often h stands in the list
+abbrev pub times : ℕ → List ℕ → ℕ
+times h l = count (λ (x : ℕ). eqb x h) l
+
+pub times-append : (h : ℕ) (xs ys : List ℕ) → times h (xs ++ ys) ≡ times h xs + times h ys
+times-append h xs ys = count-append (λ (x : ℕ). eqb x h) xs ys
+
+pub times-self : (h : ℕ) → times h (h ∷ []) ≡ 1
+times-self h = rw (eq-eqb h h refl)
+
+pub times-other : (h x : ℕ) → (x ≡ h → ⊥) → times h (x ∷ []) ≡ 0
+times-other h x n = rw (ne-eqb x h n)
+
+pub found : (h : ℕ) (l : List ℕ) → 1 ≤ times h l → List·Memᴰ h l
+found h [] p = let z : ⊥ = omega arith in absurd z
+found h (x ∷ xs) p = by (eqb x h) refl (found h xs)
+  where
+    by : (b : Bool) → eqb x h ≡ b → (1 ≤ times h xs → List·Memᴰ h xs) → List·Memᴰ h (x ∷ xs)
+    by true e ih = List·Memᴰ·head (sym (eqb-true x h e))
+    by false e ih = List·Memᴰ·tail (ih (let q : 1 ≤ oneIf false + times h xs = rw e at p in omega arith))
+
+pub counted : {h : ℕ} {l : List ℕ} → List·Memᴰ h l → 1 ≤ times h l
+counted {h} (List·Memᴰ·head {x = x} {xs = xs} e) = let q : eqb x h ≡ true = eq-eqb x h (sym e) in rw q (omega arith)
+counted {h} (List·Memᴰ·tail {x = x} {xs = xs} m) = let q = counted m in omega arith
+
+pub counted-in : {h : ℕ} {l : List ℕ} → List·Mem h l → 1 ≤ times h l
+counted-in {h} {l} m = ∥∥₁-elim m le-prop counted
+
+-- a list that holds h is a front, h and a back
+pub record Split (h : ℕ) (l : List ℕ) : Type 0 where
+  pub front : List ℕ
+  pub back : List ℕ
+  pub whole : l ≡ front ++ (h ∷ back)
+
+pub split : {h : ℕ} {l : List ℕ} → List·Memᴰ h l → Split h l
+split {h} (List·Memᴰ·head {x = x} {xs = xs} e) = record { front = []; back = xs; whole = ap (λ (y : ℕ). y ∷ xs) (sym e) }
+split {h} (List·Memᴰ·tail {x = x} {xs = xs} m) =
+    let s = split m in record { front = x ∷ s .front; back = s .back; whole = ap (_∷_ x) (s .whole) }
+
+-- lists in which every number stands equally often are permutations
+module _ (x : ℕ) (xs front back : List ℕ) where
+  rest : ((h : ℕ) → times h (x ∷ xs) ≡ times h (front ++ (x ∷ back))) → (h : ℕ) → times h xs ≡ times h (front ++ back)
+  rest e h =
+      let a = e h in
+      let b = times-append h front (x ∷ back) in
+      let c = times-append h front back in
+      omega arith
+
+  placed : Perm xs (front ++ back) → Perm (x ∷ xs) (front ++ (x ∷ back))
+  placed p = Perm·trans (Perm·cons x p) (Perm·symm (perm-middle front back))
+
+times-first : (x : ℕ) (xs : List ℕ) → times x (x ∷ xs) ≡ 1 + times x xs
+times-first x xs = rw (eq-eqb x x refl)
+
+pub perm-of-times : (xs ys : List ℕ) → ((h : ℕ) → times h xs ≡ times h ys) → Perm xs ys
+perm-of-times [] [] e = Perm·nil
+perm-of-times [] (y ∷ ys) e = let z = e y in let q = times-first y ys in let f : ⊥ = omega arith in absurd f
+perm-of-times (x ∷ xs) ys e = by (perm-of-times xs) (split (found x ys (let q = times-first x xs in let z = e x in omega arith)))
+  where
+    by : ((zs : List ℕ) → ((h : ℕ) → times h xs ≡ times h zs) → Perm xs zs) → Split x ys → Perm (x ∷ xs) ys
+    by ih s =
+        rw (s .whole) (placed x xs (s .front) (s .back) (ih (s .front ++ s .back) (rest x xs (s .front) (s .back) (λ h. e h ∙ ap (times h) (s .whole)))))
+
+pub nodup-of-times : (l : List ℕ) → ((h : ℕ) → times h l ≤ 1) → List·Nodup l
+nodup-of-times [] e = nodup-nil
+nodup-of-times (x ∷ xs) e =
+    nodup-cons .1 (
+      λ m. let q = times-first x xs in
+          let k : 1 ≤ times x xs = counted-in m in
+          let z = e x in
+          omega arith,
+      nodup-of-times xs (λ h. let z = e h in omega arith),
+    )
+
+-- no number stands twice, as a test
+abbrev pub distinct : List ℕ → Bool
+distinct [] = true
+distinct (x ∷ xs) = eqb (times x xs) 0 && distinct xs
+
+pub distinct-of-times : (l : List ℕ) → ((h : ℕ) → times h l ≤ 1) → distinct l ≡ true
+distinct-of-times [] e = refl
+distinct-of-times (x ∷ xs) e =
+    let q = times-first x xs in
+    let z = e x in
+    rw (eq-eqb (times x xs) 0 (omega arith)) (distinct-of-times xs (λ h. let z = e h in omega arith))

@@ -1,0 +1,90 @@
+-- Places in a list, a list without one element, those that pass a test.
+use mathlib.Core.Path.{_≡_, refl, ap, sym, _∙_}
+use mathlib.Core.Bool.{Bool, true, false, not, cond}
+use mathlib.Core.List.{List, [], _∷_, _++_, map, append-nil, append-assoc}
+use Prim.Native.Nat.{ℕ, zero, suc, _+_, _≤_, _<_}
+use native.Mathlib.Omega.{arith}
+use native.Mathlib.Numerals.{add-one}
+use lib.Dec.{ltb}
+use lib.ListN.{length, getD, take, drop}
+use Rattle.lists.specs.Count.{oneIf, count}
+use Rattle.lists.specs.Prefix.{take-more, drop-more}
+
+module _ {A : Type 0} where
+  -- the place of the first that passes, and the length where none does
+  abbrev pub findAt : (A → Bool) → List A → ℕ
+  findAt p [] = 0
+  findAt p (a ∷ rest) = cond (p a) 0 (suc (findAt p rest))
+
+  -- the place of the last that passes, and the length where none does
+  abbrev pub lastAt : (A → Bool) → List A → ℕ
+  lastAt p [] = 0
+  lastAt p (a ∷ rest) = cond (ltb (lastAt p rest) (length rest)) (suc (lastAt p rest)) (cond (p a) 0 (suc (length rest)))
+
+  -- the list without its element k
+  abbrev pub without : ℕ → List A → List A
+  without k [] = []
+  without zero (a ∷ rest) = rest
+  without (suc k) (a ∷ rest) = a ∷ without k rest
+
+  -- those that pass the test, in their order
+  abbrev pub kept : (A → Bool) → List A → List A
+  kept p [] = []
+  kept p (a ∷ rest) = cond (p a) (a ∷ kept p rest) (kept p rest)
+
+  -- a search that looks at one after the other: the invariant speaks of what is left
+  pub find-found : (p : A → Bool) (xs : List A) (i : ℕ) (d : A) → i < length xs → p (getD xs i d) ≡ true → findAt p (drop i xs) ≡ 0
+  find-found p xs i d h e = rw (drop-more xs i d, e)
+
+  pub find-next : (p : A → Bool) (xs : List A) (i : ℕ) (d : A) → i < length xs → p (getD xs i d) ≡ false
+    → findAt p (drop i xs) ≡ suc (findAt p (drop (i + 1) xs))
+  find-next p xs i d h e = rw (drop-more xs i d, e)
+
+  pub without-split : (k : ℕ) (xs : List A) → without k xs ≡ take k xs ++ drop (suc k) xs
+  without-split zero [] = refl
+  without-split (suc k) [] = refl
+  without-split zero (x ∷ xs) = refl
+  without-split (suc k) (x ∷ xs) = ap (_∷_ x) (without-split k xs)
+
+  pub kept-append : (p : A → Bool) (xs ys : List A) → kept p (xs ++ ys) ≡ kept p xs ++ kept p ys
+  kept-append p [] ys = refl
+  kept-append p (x ∷ xs) ys = by (p x) refl (kept-append p xs ys)
+    where
+      by : (b : Bool) → p x ≡ b → kept p (xs ++ ys) ≡ kept p xs ++ kept p ys → kept p ((x ∷ xs) ++ ys) ≡ kept p (x ∷ xs) ++ kept p ys
+      by true e ih = rw e (ap (_∷_ x) ih)
+      by false e ih = rw e ih
+
+  pub kept-more : (p : A → Bool) (xs : List A) (i : ℕ) (d : A) → i < length xs
+    → kept p (take (i + 1) xs) ≡ kept p (take i xs) ++ kept p (getD xs i d ∷ [])
+  kept-more p xs i d h = rw (take-more xs i d) (kept-append p (take i xs) (getD xs i d ∷ []))
+
+  -- those that pass and those that do not are all
+  pub count-kept : (p q : A → Bool) (xs : List A) → count p (kept q xs) + count p (kept (λ (a : A). not (q a)) xs) ≡ count p xs
+  count-kept p q [] = refl
+  count-kept p q (x ∷ xs) = by (q x) refl (count-kept p q xs)
+    where
+      by : (b : Bool) → q x ≡ b → count p (kept q xs) + count p (kept (λ (a : A). not (q a)) xs) ≡ count p xs
+          → count p (kept q (x ∷ xs)) + count p (kept (λ (a : A). not (q a)) (x ∷ xs)) ≡ count p (x ∷ xs)
+      by true e ih = rw e (omega arith)
+      by false e ih = rw e (omega arith)
+
+  -- of those that pass q, none that fail it
+  pub kept-none : (p q : A → Bool) → ((a : A) → p a ≡ true → q a ≡ false) → (xs : List A) → count p (kept q xs) ≡ 0
+  kept-none p q f [] = refl
+  kept-none p q f (x ∷ xs) = by (p x) refl (q x) refl (kept-none p q f xs)
+    where
+      by : (b : Bool) → p x ≡ b → (y : Bool) → q x ≡ y → count p (kept q xs) ≡ 0 → count p (kept q (x ∷ xs)) ≡ 0
+      by b e false g ih = rw g ih
+      by true e true g ih = let z : _≡_ {A = ℕ} 0 1 = cc (f x e) in let n : ⊥ = omega arith in absurd n
+      by false e true g ih = rw (g, e) (omega arith)
+
+module _ {A B : Type 0} where
+  -- a test that goes through the view is one test of the list and of its view
+  pub find-map : (f : A → B) (p : A → Bool) (q : B → Bool) → ((a : A) → p a ≡ q (f a)) → (xs : List A) → findAt p xs ≡ findAt q (map f xs)
+  find-map f p q h [] = refl
+  find-map f p q h (x ∷ xs) = rw (h x, find-map f p q h xs)
+
+  pub map-without : (f : A → B) (k : ℕ) (xs : List A) → map f (without k xs) ≡ without k (map f xs)
+  map-without f k [] = refl
+  map-without f zero (x ∷ xs) = refl
+  map-without f (suc k) (x ∷ xs) = ap (_∷_ (f x)) (map-without f k xs)

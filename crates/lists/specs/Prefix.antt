@@ -1,0 +1,93 @@
+-- Laws on the first elements of a list, at the code's `i + 1`, for loops that count up.
+use mathlib.Core.Path.{_≡_, refl, ap, sym, _∙_}
+use mathlib.Core.List.{List, [], _∷_, _++_, map, append-assoc, map-append}
+use Prim.Native.Nat.{ℕ, zero, suc, _+_, _-_, _≤_, _<_}
+use native.Mathlib.Numerals.{add-one}
+use native.Mathlib.Omega.{arith}
+use lib.ListN.{length, take, drop, getD, set, length-append, length-take, length-drop, length-map, List·getD-map}
+use lib.Seq.{drop-cons, take-suc, getD-take, getD-at, set-at, take-at, take-set-lt}
+
+module _ {A : Type 0} where
+  pub take-more : (xs : List A) (i : ℕ) (d : A) → i < length xs → take (i + 1) xs ≡ take i xs ++ (getD xs i d ∷ [])
+  take-more xs i d h = rw (add-one, take-suc xs i d)
+
+  pub drop-more : (xs : List A) (i : ℕ) (d : A) → i < length xs → drop i xs ≡ getD xs i d ∷ drop (i + 1) xs
+  drop-more xs i d h = rw (add-one, drop-cons xs i d)
+
+  -- within the list the default is not looked at
+  pub getD-any : (xs : List A) (i : ℕ) (a b : A) → i < length xs → getD xs i a ≡ getD xs i b
+  getD-any [] i a b h = let z : ⊥ = omega arith in absurd z
+  getD-any (x ∷ xs) zero a b h = refl
+  getD-any (x ∷ xs) (suc i) a b h = getD-any xs i a b (omega arith)
+
+module _ {A B : Type 0} where
+  -- from the left: what a loop computes
+  abbrev pub fold : (B → A → B) → B → List A → B
+  fold f z [] = z
+  fold f z (a ∷ rest) = fold f (f z a) rest
+
+  pub fold-snoc : (f : B → A → B) (z : B) (xs : List A) (a : A) → fold f z (xs ++ (a ∷ [])) ≡ f (fold f z xs) a
+  fold-snoc f z [] a = refl
+  fold-snoc f z (x ∷ xs) a = fold-snoc f (f z x) xs a
+
+  pub fold-more : (f : B → A → B) (z : B) (xs : List A) (i : ℕ) (d : A) → i < length xs
+    → fold f z (take (i + 1) xs) ≡ f (fold f z (take i xs)) (getD xs i d)
+  fold-more f z xs i d h = rw (take-more xs i d, fold-snoc)
+
+  pub map-take : (f : A → B) (k : ℕ) (xs : List A) → map f (take k xs) ≡ take k (map f xs)
+  map-take f zero xs = refl
+  map-take f (suc k) [] = refl
+  map-take f (suc k) (x ∷ xs) = ap (_∷_ (f x)) (map-take f k xs)
+
+  pub map-drop : (f : A → B) (k : ℕ) (xs : List A) → map f (drop k xs) ≡ drop k (map f xs)
+  map-drop f zero xs = refl
+  map-drop f (suc k) [] = refl
+  map-drop f (suc k) (x ∷ xs) = map-drop f k xs
+
+  pub map-set : (f : A → B) (xs : List A) (k : ℕ) (a : A) → map f (set xs k a) ≡ set (map f xs) k (f a)
+  map-set f [] k a = refl
+  map-set f (x ∷ xs) zero a = refl
+  map-set f (x ∷ xs) (suc k) a = ap (_∷_ (f x)) (map-set f xs k a)
+
+  -- the view of the first n: how long it is, what stands in it, and what a store does to it
+  pub shown-length : (f : A → B) (n : ℕ) (xs : List A) → n ≤ length xs → length (map f (take n xs)) ≡ n
+  shown-length f n xs h = simp (length-map, length-take) (omega arith)
+
+  pub shown-at : (f : A → B) (n : ℕ) (xs : List A) (i : ℕ) (d : A) → i < n → getD (map f (take n xs)) i (f d) ≡ f (getD xs i d)
+  shown-at f n xs i d h = List·getD-map f (take n xs) i d ∙ ap f (getD-take n xs i d h)
+
+  pub shown-set : (f : A → B) (n : ℕ) (xs : List A) (i : ℕ) (a : A) → i < n → map f (take n (set xs i a)) ≡ set (map f (take n xs)) i (f a)
+  shown-set f n xs i a h = rw (take-set-lt n xs i a) (map-set f (take n xs) i a)
+
+  pub shown-any : (f : A → B) (n : ℕ) (xs : List A) (i : ℕ) (d : A) (e : B) → n ≤ length xs → i < n → getD (map f (take n xs)) i e ≡ f (getD xs i d)
+  shown-any f n xs i d e hn hi =
+      let size = shown-length f n xs hn in
+      getD-any (map f (take n xs)) i e (f d) (omega (arith, size)) ∙ shown-at f n xs i d hi
+
+-- A pass that maps the first i elements in place has `map f (take i xs) ++ drop i xs`.
+module _ {A : Type 0} (f : A → A) where
+  abbrev pub mapped : ℕ → List A → List A
+  mapped i xs = map f (take i xs) ++ drop i xs
+
+  pub mapped-none : (xs : List A) → xs ≡ mapped 0 xs
+  mapped-none [] = refl
+  mapped-none (x ∷ xs) = refl
+
+  pub length-mapped : (i : ℕ) (xs : List A) → length (mapped i xs) ≡ length xs
+  length-mapped i xs = simp (length-append, length-map, length-take, length-drop) (omega arith)
+
+  length-front : (xs : List A) (i : ℕ) → i < length xs → length (map f (take i xs)) ≡ i
+  length-front xs i h = simp (length-map, length-take) (omega arith)
+
+  pub take-mapped : (i : ℕ) (xs : List A) → i ≤ length xs → take i (mapped i xs) ≡ map f (take i xs)
+  take-mapped i xs h = take-at (map f (take i xs)) (drop i xs) i (simp (length-map, length-take) (omega arith))
+
+  -- what the next turn reads is as it was
+  pub mapped-next : (xs : List A) (i : ℕ) (d : A) → i < length xs → getD (mapped i xs) i d ≡ getD xs i d
+  mapped-next xs i d h =
+      rw (drop-more xs i d) (getD-at (map f (take i xs)) (getD xs i d) (drop (i + 1) xs) d i (length-front xs i h))
+
+  -- what the next turn writes
+  pub mapped-more : (xs : List A) (i : ℕ) (d : A) → i < length xs → set (mapped i xs) i (f (getD xs i d)) ≡ mapped (i + 1) xs
+  mapped-more xs i d h =
+      rw (drop-more xs i d, take-more xs i d, map-append, append-assoc) (set-at (map f (take i xs)) _ _ _ i (length-front xs i h))

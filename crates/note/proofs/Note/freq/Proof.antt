@@ -1,0 +1,27 @@
+use mathlib.Core.Path.{refl}
+use Rattle.note.specs.Frequency.{freqOf}
+use borrow.Author.Needs.{needs}
+use Rattle.note.proofs.Note.freq.Statement.{statement}
+use Rattle.note.proofs.Note.freq.Tie as tie
+use Rattle.note.proofs.Note.freq.Reads as reads
+use Rattle.note.proofs.Note.freq.Lts as lts
+
+-- src/lib.rt:57:14
+cast-result : tie.Need-cast-result
+cast-result c = search needs
+
+-- src/lib.rt:57:9
+mul-result : tie.Need-mul-result
+mul-result c = search needs
+
+-- src/lib.rt:57:9
+array-read-result : tie.Need-array-read-result
+array-read-result c = search needs
+
+-- src/lib.rt:53:5
+returns : tie.Need-returns
+unfolding freqOf
+returns c = refl
+
+pub freq-spec : {M : Type 1} → statement M
+freq-spec = tie.close (tie.spec cast-result mul-result array-read-result returns)

@@ -1,0 +1,2 @@
+pub mod Frequency
+pub mod Temperament
