@@ -1,5 +1,8 @@
 pub mod Numbers
+pub mod Tests
 pub mod Order
 pub mod OrderLaws
 pub mod Root
-pub mod Tests
+pub mod Rounded
+pub mod Signs
+pub mod Levels

@@ -64,9 +64,45 @@ pub fn clamp(x: f32, low: f32, high: f32) -> f32
     if high < x { high } else { x }
 }
 
+// x minus its whole part. The remainder by 1 is exact, and only its zero may have the wrong sign.
+pub fn fract(x: f32) -> f32
+    ensures { λ r. ⌜ r ≡ fractOf x ⌝ }
+{
+    let rest = x % 1.0;
+    if rest == 0.0 { 0.0 } else { rest }
+}
+
+// Whether a is below b in the order of levels: -0 below +0, a NaN above every number, all NaNs alike.
+pub fn total_below(a: f32, b: f32) -> bool
+    ensures { λ r. ⌜ r ≡ below a b ⌝ }
+{
+    if a != a {
+        return false;
+    }
+    if b != b {
+        return true;
+    }
+    if a < b {
+        return true;
+    }
+    if b < a {
+        return false;
+    }
+    // Equal numbers: only a zero has a reciprocal that tells the signs apart.
+    1.0 / a < 1.0 / b
+}
+
 // The roots of 0 to 8.
 const ROOTS: [f32; 9] = [
-    0.0, 1.0, 1.4142135, 1.7320508, 2.0, 2.236068, 2.4494898, 2.6457512, 2.828427,
+    0.0,
+    1.0,
+    1.4142135,
+    1.7320508,
+    2.0,
+    2.236068,
+    2.4494898,
+    2.6457512,
+    2.828427,
 ];
 
 // The square root of n, rounded once, for n up to 8. There is none beyond: a NaN.
@@ -82,8 +118,12 @@ pub fn root(n: u8) -> f32
 // The theorem that each root from 1 to 8 is the float nearest to the real root.
 pub fn roots_nearest()
     ensures { λ _. ⌜ RootsNearest ⌝ }
-{
-}
+{}
+
+// The theorem that the order of levels is the order of numbers, with -0 below +0 and NaN last.
+pub fn order_of_levels()
+    ensures { λ _. ⌜ OrderOfLevels ⌝ }
+{}
 
 // The float of a bit pattern. Every NaN pattern gives a NaN.
 pub fn from_bits(b: u32) -> f32

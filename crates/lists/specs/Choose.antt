@@ -1,6 +1,6 @@
 -- Laws on `cond`, the choice by a test.
 use mathlib.Core.Path.{_≡_, refl}
-use mathlib.Core.Bool.{Bool, true, false, _&&_, cond}
+use mathlib.Core.Bool.{Bool, true, false, _&&_, _||_, cond}
 use Prim.Native.Nat.{ℕ}
 use native.Mathlib.Omega.{arith}
 
@@ -24,3 +24,17 @@ clash b e f = let z : _≡_ {A = ℕ} 0 1 = cc in omega arith
 pub both : (a b : Bool) → a && b ≡ true → (a ≡ true) × (b ≡ true)
 both true b e = (refl, e)
 both false b e = let z : _≡_ {A = Bool} false true = e in (e, cc)
+
+-- a chain of tests as code with early returns meets it: the first that fails ends an `&&`, the first that passes ends an `||`
+module _ (a b : Bool) where
+  pub and-fails : a ≡ false → false ≡ a && b
+  and-fails e = rw e
+
+  pub and-then : (x : Bool) → a ≡ true → x ≡ b → x ≡ a && b
+  and-then x e f = rw e f
+
+  pub or-passes : a ≡ true → true ≡ a || b
+  or-passes e = rw e
+
+  pub or-else : (x : Bool) → a ≡ false → x ≡ b → x ≡ a || b
+  or-else x e f = rw e f

@@ -25,7 +25,7 @@ module _ {A : Type 0} where
   count-append p (x ∷ xs) ys = let h = count-append p xs ys in omega arith
 
   pub count-more : (p : A → Bool) (xs : List A) (i : ℕ) (d : A) → i < length xs
-    → count p (take (i + 1) xs) ≡ count p (take i xs) + oneIf (p (getD xs i d))
+      → count p (take (i + 1) xs) ≡ count p (take i xs) + oneIf (p (getD xs i d))
   count-more p xs i d h = rw (take-more xs i d) (let a = count-append p (take i xs) (getD xs i d ∷ []) in omega arith)
 
   pub count-at : (d : A) (p : A → Bool) (xs : List A) (j : ℕ) → j < length xs → p (getD xs j d) ≡ true → 1 ≤ count p xs

@@ -32,7 +32,7 @@ module _ {A B : Type 0} where
     pass-skip p = record { front = p .front; back = drop-next i ws vs (p .back); size = p .size; order = omega arith }
 
     pub pass-keep : (a : A) (b : B) → s a ≡ b → Pass s ys w i ws vs → i < length vs
-      → Pass s (ys ++ (b ∷ [])) (w + 1) (i + 1) (set ws w a) vs
+        → Pass s (ys ++ (b ∷ [])) (w + 1) (i + 1) (set ws w a) vs
     pass-keep a b e p h =
         let in-ws : w < length ws = omega arith in
         record {
@@ -48,5 +48,5 @@ module _ {A B : Type 0} where
 module _ {A B C : Type 0} where
   -- the view of one more element, through a function on views
   pub maps-more : (g : B → C) (s : A → B) (xs : List A) (i : ℕ) (d : A) → i < length xs
-    → map g (map s (take (i + 1) xs)) ≡ map g (map s (take i xs)) ++ (g (s (getD xs i d)) ∷ [])
+      → map g (map s (take (i + 1) xs)) ≡ map g (map s (take i xs)) ++ (g (s (getD xs i d)) ∷ [])
   maps-more g s xs i d h = rw (take-more xs i d, map-append s, map-append g)

@@ -37,7 +37,7 @@ module _ {A : Type 0} where
   find-found p xs i d h e = rw (drop-more xs i d, e)
 
   pub find-next : (p : A → Bool) (xs : List A) (i : ℕ) (d : A) → i < length xs → p (getD xs i d) ≡ false
-    → findAt p (drop i xs) ≡ suc (findAt p (drop (i + 1) xs))
+      → findAt p (drop i xs) ≡ suc (findAt p (drop (i + 1) xs))
   find-next p xs i d h e = rw (drop-more xs i d, e)
 
   pub without-split : (k : ℕ) (xs : List A) → without k xs ≡ take k xs ++ drop (suc k) xs
@@ -55,7 +55,7 @@ module _ {A : Type 0} where
       by false e ih = rw e ih
 
   pub kept-more : (p : A → Bool) (xs : List A) (i : ℕ) (d : A) → i < length xs
-    → kept p (take (i + 1) xs) ≡ kept p (take i xs) ++ kept p (getD xs i d ∷ [])
+      → kept p (take (i + 1) xs) ≡ kept p (take i xs) ++ kept p (getD xs i d ∷ [])
   kept-more p xs i d h = rw (take-more xs i d) (kept-append p (take i xs) (getD xs i d ∷ []))
 
   -- those that pass and those that do not are all

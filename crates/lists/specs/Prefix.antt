@@ -31,7 +31,7 @@ module _ {A B : Type 0} where
   fold-snoc f z (x ∷ xs) a = fold-snoc f (f z x) xs a
 
   pub fold-more : (f : B → A → B) (z : B) (xs : List A) (i : ℕ) (d : A) → i < length xs
-    → fold f z (take (i + 1) xs) ≡ f (fold f z (take i xs)) (getD xs i d)
+      → fold f z (take (i + 1) xs) ≡ f (fold f z (take i xs)) (getD xs i d)
   fold-more f z xs i d h = rw (take-more xs i d, fold-snoc)
 
   pub map-take : (f : A → B) (k : ℕ) (xs : List A) → map f (take k xs) ≡ take k (map f xs)

@@ -11,7 +11,7 @@ use Rattle.float32.proofs.roots_nearest.Statement.{statement}
 use Rattle.float32.proofs.roots_nearest.Tie as tie
 
 checked : (n p k : ℕ) (x : Float) → x ≡ round binary32 false p (2 ^ k) → leb (2 ^ 23) p ≡ true → ltb p (2 ^ 24) ≡ true
-  → ltb (4 * (p * p) + 1) (4 * (n * 2 ^ (2 * k)) + 4 * p) ≡ true → ltb (4 * (n * 2 ^ (2 * k))) (4 * (p * p) + 4 * p + 1) ≡ true → NearestRoot n x
+    → ltb (4 * (p * p) + 1) (4 * (n * 2 ^ (2 * k)) + 4 * p) ≡ true → ltb (4 * (n * 2 ^ (2 * k))) (4 * (p * p) + 4 * p + 1) ≡ true → NearestRoot n x
 checked n p k x v a b c d = record { p = p; k = k; value = v; digits = (leb-true _ _ a, ltb-true _ _ b); above = ltb-true _ _ c; under = ltb-true _ _ d }
 
 all : (n : ℕ) → n < 8 → NearestRoot (suc n) (rootOf (suc n))

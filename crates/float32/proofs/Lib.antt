@@ -1,0 +1,4 @@
+pub mod Itself
+pub mod Ordering
+pub mod Reciprocal
+pub mod Fraction
