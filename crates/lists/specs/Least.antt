@@ -5,8 +5,8 @@ use mathlib.Core.Bool.{Bool, true, false, not, _&&_, _||_, cond}
 use mathlib.Core.List.{List, [], _∷_}
 use Prim.Native.Nat.{ℕ, zero, suc, _+_, _≤_, _<_}
 use native.Mathlib.Omega.{arith}
-use borrow.Author.Tests.{leb-true, leb-false}
-use lib.Dec.{leb}
+use borrow.Author.Tests.{leb-true, leb-false, ltb-true, ltb-false}
+use lib.Dec.{leb, ltb}
 use lib.ListN.{length, getD}
 use Rattle.lists.specs.Choose.{clash}
 use Rattle.lists.specs.Count.{oneIf, count, count-at}
@@ -27,6 +27,15 @@ module _ {A : Type 0} (d : A) (below : A → A → Bool) (p : A → Bool) where
     pub passes : p (getD xs k d) ≡ true
     pub low : (j : ℕ) → j < length xs → p (getD xs j d) ≡ true → below (getD xs j d) (getD xs k d) ≡ false
     pub first : (j : ℕ) → j < k → p (getD xs j d) ≡ true → below (getD xs k d) (getD xs j d) ≡ true
+
+  -- there is one such place
+  pub lowest-one : (xs : List A) (i k : ℕ) → Lowest xs i → Lowest xs k → i ≡ k
+  lowest-one xs i k a b = by (ltb i k) refl (ltb k i) refl
+    where
+      by : (x : Bool) → ltb i k ≡ x → (y : Bool) → ltb k i ≡ y → i ≡ k
+      by true e y f = absurd (clash (below (getD xs k d) (getD xs i d)) (b .first i (ltb-true _ _ e) (a .passes)) (a .low k (b .inside) (b .passes)))
+      by false e true f = absurd (clash (below (getD xs i d) (getD xs k d)) (a .first k (ltb-true _ _ f) (b .passes)) (b .low i (a .inside) (a .passes)))
+      by false e false f = let p : k ≤ i = ltb-false _ _ e in let q : i ≤ k = ltb-false _ _ f in omega arith
 
   module _ (o : Ordered below) where
     itself : (a : A) → below a a ≡ false

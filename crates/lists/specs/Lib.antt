@@ -6,3 +6,4 @@ pub mod Places
 pub mod Least
 pub mod Pass
 pub mod Every
+pub mod All

@@ -6,8 +6,10 @@ use mathlib.Core.Logic.{∥∥₁-elim}
 use Prim.Native.Nat.{ℕ, zero, suc, _+_, _≤_, _<_}
 use native.Mathlib.Omega.{arith}
 use native.Mathlib.Bridge.{le-prop}
-use borrow.Author.Tests.{eqb-true, eq-eqb, ne-eqb}
+use borrow.Author.Tests.{eqb-true, eqb-false, eq-eqb, ne-eqb}
 use lib.Dec.{eqb}
+use Rattle.lists.specs.Choose.{both}
+use Rattle.lists.specs.Choose.{both}
 use Rattle.lists.specs.Count.{oneIf, count, count-append}
 
 -- how often h stands in the list
@@ -95,3 +97,56 @@ distinct-of-times (x ∷ xs) e =
     let q = times-first x xs in
     let z = e x in
     rw (eq-eqb (times x xs) 0 (omega arith)) (distinct-of-times xs (λ h. let z = e h in omega arith))
+
+pub times-of-distinct : (l : List ℕ) → distinct l ≡ true → (h : ℕ) → times h l ≤ 1
+times-of-distinct [] e h = omega arith
+times-of-distinct (x ∷ xs) e h = by (eqb x h) refl (times-of-distinct xs (b .1) h)
+  where
+    b : (eqb (times x xs) 0 ≡ true) × (distinct xs ≡ true)
+    b = both (eqb (times x xs) 0) (distinct xs) e
+
+    by : (c : Bool) → eqb x h ≡ c → times h xs ≤ 1 → times h (x ∷ xs) ≤ 1
+    by true f ih =
+        let q : times x xs ≡ 0 = eqb-true _ _ (b .0) in
+        let r : x ≡ h = eqb-true x h f in
+        let z : times h xs ≡ 0 = ap (λ (y : ℕ). times y xs) (sym r) ∙ q in
+        rw f (omega arith)
+    by false f ih = rw f (omega arith)
+
+-- one more at the end
+pub distinct-snoc : (l : List ℕ) (x : ℕ) → distinct (l ++ (x ∷ [])) ≡ (distinct l && eqb (times x l) 0)
+distinct-snoc [] x = refl
+distinct-snoc (y ∷ l) x = by (eqb y x) refl (distinct-snoc l x)
+  where
+    swap : (a b c : Bool) → (a && (b && c)) ≡ ((a && b) && c)
+    swap true b c = refl
+    swap false b c = refl
+
+    none : (a : Bool) → (a && false) ≡ false
+    none true = refl
+    none false = refl
+
+    by : (b : Bool) → eqb y x ≡ b → distinct (l ++ (x ∷ [])) ≡ (distinct l && eqb (times x l) 0)
+        → distinct (y ∷ (l ++ (x ∷ []))) ≡ (distinct (y ∷ l) && eqb (times x (y ∷ l)) 0)
+    by true e ih =
+        let q : y ≡ x = eqb-true y x e in
+        let t = times-append y l (x ∷ []) in
+        let o : oneIf (eqb x y) ≡ 1 = ap oneIf (eq-eqb x y (sym q)) in
+        let a : eqb (times y (l ++ (x ∷ []))) 0 ≡ false = ne-eqb _ 0 (λ (z : times y (l ++ (x ∷ [])) ≡ 0). omega arith) in
+        let b : eqb (oneIf true + times x l) 0 ≡ false = ne-eqb _ 0 (λ (z : oneIf true + times x l ≡ 0). omega arith) in
+        rw (a, e, b) (sym (none (eqb (times y l) 0 && distinct l)))
+    by false e ih =
+        let t = times-append y l (x ∷ []) in
+        let o : oneIf (eqb x y) ≡ 0 = ap oneIf (ne-eqb x y (λ (z : x ≡ y). eqb-false y x e (sym z))) in
+        let a : times y (l ++ (x ∷ [])) ≡ times y l = omega arith in
+        let b : oneIf false + times x l ≡ times x l = omega arith in
+        rw (a, e, b, ih) (swap (eqb (times y l) 0) (distinct l) (eqb (times x l) 0))
+
+-- what stands in front of a list without repeats has none
+pub distinct-front : (l m : List ℕ) → distinct (l ++ m) ≡ true → distinct l ≡ true
+distinct-front [] m e = refl
+distinct-front (x ∷ l) m e =
+    let b = both (eqb (times x (l ++ m)) 0) (distinct (l ++ m)) e in
+    let n : times x (l ++ m) ≡ 0 = eqb-true (times x (l ++ m)) 0 (b .0) in
+    let t = times-append x l m in
+    rw (eq-eqb (times x l) 0 (omega arith)) (distinct-front l m (b .1))

@@ -1,11 +1,14 @@
 -- Laws on the first elements of a list, at the code's `i + 1`, for loops that count up.
 use mathlib.Core.Path.{_≡_, refl, ap, sym, _∙_}
 use mathlib.Core.List.{List, [], _∷_, _++_, map, append-assoc, map-append}
-use Prim.Native.Nat.{ℕ, zero, suc, _+_, _-_, _≤_, _<_}
+use Prim.Native.Nat.{ℕ, zero, suc, _+_, _≤_, _<_, min}
+use mathlib.Core.Bool.{Bool, true, false}
 use native.Mathlib.Numerals.{add-one}
 use native.Mathlib.Omega.{arith}
 use lib.ListN.{length, take, drop, getD, set, length-append, length-take, length-drop, length-map, List·getD-map}
-use lib.Seq.{drop-cons, take-suc, getD-take, getD-at, set-at, take-at, take-set-lt}
+use lib.Seq.{drop-cons, take-suc, getD-take, getD-at, set-at, take-at, take-set-lt, take-all}
+use lib.Dec.{leb}
+use borrow.Author.Tests.{leb-true, leb-false}
 
 module _ {A : Type 0} where
   pub take-more : (xs : List A) (i : ℕ) (d : A) → i < length xs → take (i + 1) xs ≡ take i xs ++ (getD xs i d ∷ [])
@@ -13,6 +16,16 @@ module _ {A : Type 0} where
 
   pub drop-more : (xs : List A) (i : ℕ) (d : A) → i < length xs → drop i xs ≡ getD xs i d ∷ drop (i + 1) xs
   drop-more xs i d h = rw (add-one, drop-cons xs i d)
+
+  -- a pass that stops at the array's end
+  pub take-least : (n k : ℕ) (xs : List A) → length xs ≡ k → take (min n k) xs ≡ take n xs
+  take-least n k xs e = by (leb n k) refl
+    where
+      by : (b : Bool) → leb n k ≡ b → take (min n k) xs ≡ take n xs
+      by true h = let l = leb-true n k h in let m : min n k ≡ n = omega arith in ap (λ (i : ℕ). take i xs) m
+      by false h =
+          let l = leb-false n k h in
+          take-all (min n k) xs (omega arith) ∙ sym (take-all n xs (omega arith))
 
   -- within the list the default is not looked at
   pub getD-any : (xs : List A) (i : ℕ) (a b : A) → i < length xs → getD xs i a ≡ getD xs i b

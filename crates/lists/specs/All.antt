@@ -1,0 +1,52 @@
+-- Every element passes a test.
+use mathlib.Core.Path.{_≡_, refl}
+use mathlib.Core.Bool.{Bool, true, false, not, _&&_}
+use mathlib.Core.List.{List, [], _∷_}
+use Prim.Native.Nat.{ℕ, _+_, _<_}
+use native.Mathlib.Omega.{arith}
+use lib.ListN.{length, drop, getD}
+use Rattle.lists.specs.Prefix.{drop-more}
+use Rattle.lists.specs.Choose.{both}
+use Rattle.lists.specs.Count.{oneIf, count}
+
+module _ {A : Type 0} (p : A → Bool) where
+  abbrev pub all : List A → Bool
+  all [] = true
+  all (x ∷ xs) = p x && all xs
+
+  -- none fails
+  pub all-none : (xs : List A) → all xs ≡ true → count (λ (a : A). not (p a)) xs ≡ 0
+  all-none [] e = refl
+  all-none (x ∷ xs) e =
+      let h = both (p x) (all xs) e in
+      let f : p x ≡ true = h .0 in
+      let q = all-none xs (h .1) in
+      rw f (omega arith)
+
+  pub none-all : (xs : List A) → count (λ (a : A). not (p a)) xs ≡ 0 → all xs ≡ true
+  none-all [] e = refl
+  none-all (x ∷ xs) e = by (p x) refl (none-all xs)
+    where
+      by : (b : Bool) → p x ≡ b → (count (λ (a : A). not (p a)) xs ≡ 0 → all xs ≡ true) → all (x ∷ xs) ≡ true
+      by true f ih = rw f (ih (let q : 0 + count (λ (a : A). not (p a)) xs ≡ 0 = rw f at e in omega arith))
+      by false f ih = let q : 1 + count (λ (a : A). not (p a)) xs ≡ 0 = rw f at e in let z : ⊥ = omega arith in absurd z
+
+module _ {A : Type 0} (p : A → Bool) where
+  -- a loop with an early return looks at what is left
+  pub all-next : (xs : List A) (i : ℕ) (d : A) → i < length xs → p (getD xs i d) ≡ true → all p (drop i xs) ≡ all p (drop (i + 1) xs)
+  all-next xs i d h e = rw (drop-more xs i d, e)
+
+  pub all-fails : (xs : List A) (i : ℕ) (d : A) → i < length xs → p (getD xs i d) ≡ false → all p (drop i xs) ≡ false
+  all-fails xs i d h e = rw (drop-more xs i d, e)
+
+module _ {A : Type 0} (p q : A → Bool) where
+  -- two tests at once
+  pub all-both : (xs : List A) → all (λ (a : A). p a && q a) xs ≡ (all p xs && all q xs)
+  all-both [] = refl
+  all-both (x ∷ xs) = by (p x) (q x) (all p xs) (all q xs) (all-both xs)
+    where
+      by : (a b c d : Bool) {e : Bool} → e ≡ (c && d) → ((a && b) && e) ≡ ((a && c) && (b && d))
+      by true true c d h = h
+      by true false true d h = refl
+      by true false false d h = refl
+      by false b c d h = refl

@@ -1,0 +1,1 @@
+//! Stand-in for modulated values: none are used.
