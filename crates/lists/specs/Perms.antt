@@ -6,9 +6,12 @@ use mathlib.Core.Logic.{∥∥₁-elim}
 use Prim.Native.Nat.{ℕ, zero, suc, _+_, _≤_, _<_}
 use native.Mathlib.Omega.{arith}
 use native.Mathlib.Bridge.{le-prop}
-use borrow.Author.Tests.{eqb-true, eqb-false, eq-eqb, ne-eqb}
-use lib.Dec.{eqb}
+use borrow.Author.Tests.{eqb-true, eqb-false, eq-eqb, ne-eqb, ltb-true}
+use lib.Dec.{eqb, ltb}
+use lib.ListN.{length}
+use Rattle.lists.specs.All.{all}
 use Rattle.lists.specs.Choose.{both}
+use Rattle.lists.specs.All.{all}
 use Rattle.lists.specs.Choose.{both}
 use Rattle.lists.specs.Count.{oneIf, count, count-append}
 
@@ -150,3 +153,68 @@ distinct-front (x ∷ l) m e =
     let n : times x (l ++ m) ≡ 0 = eqb-true (times x (l ++ m)) 0 (b .0) in
     let t = times-append x l m in
     rw (eq-eqb (times x l) 0 (omega arith)) (distinct-front l m (b .1))
+
+lower : (x k : ℕ) → (x ≡ k → ⊥) → x < suc k → x < k
+lower x k n h = omega arith
+
+-- how many numbers below k stand in the list, repeats counted
+abbrev tally : ℕ → List ℕ → ℕ
+tally zero l = 0
+tally (suc k) l = times k l + tally k l
+
+tally-high : (k x : ℕ) (l : List ℕ) → k ≤ x → tally k (x ∷ l) ≡ tally k l
+tally-high zero x l h = refl
+tally-high (suc k) x l h =
+    let t = tally-high k x l (omega arith) in
+    let o : oneIf (eqb x k) ≡ 0 = ap oneIf (ne-eqb x k (λ (z : x ≡ k). omega arith)) in
+    omega arith
+
+tally-low : (k x : ℕ) (l : List ℕ) → x < k → tally k (x ∷ l) ≡ 1 + tally k l
+tally-low zero x l h = let z : ⊥ = omega arith in absurd z
+tally-low (suc k) x l h = by (eqb x k) refl (tally-low k x l)
+  where
+    by : (b : Bool) → eqb x k ≡ b → (x < k → tally k (x ∷ l) ≡ 1 + tally k l) → tally (suc k) (x ∷ l) ≡ 1 + tally (suc k) l
+    by true q ih =
+        let z : x ≡ k = eqb-true x k q in
+        let t = tally-high k x l (omega arith) in
+        let o : oneIf (eqb x k) ≡ 1 = ap oneIf q in
+        omega arith
+    by false q ih =
+        let t = ih (lower x k (eqb-false x k q) h) in
+        let o : oneIf (eqb x k) ≡ 0 = ap oneIf q in
+        omega arith
+
+tally-all : (k : ℕ) (l : List ℕ) → all (λ (x : ℕ). ltb x k) l ≡ true → tally k l ≡ length l
+tally-all k [] e = none k
+  where
+    none : (k : ℕ) → tally k [] ≡ 0
+    none zero = refl
+    none (suc k) = let q = none k in omega arith
+tally-all k (x ∷ l) e =
+    let b = both (ltb x k) (all (λ (x : ℕ). ltb x k) l) e in
+    let t = tally-all k l (b .1) in
+    let s = tally-low k x l (ltb-true x k (b .0)) in
+    omega arith
+
+tally-most : (k : ℕ) (l : List ℕ) → ((y : ℕ) → times y l ≤ 1) → tally k l ≤ k
+tally-most zero l h = omega arith
+tally-most (suc k) l h = let t = tally-most k l h in let s = h k in omega arith
+
+tally-less : (k n : ℕ) (l : List ℕ) → n < k → times n l ≡ 0 → ((y : ℕ) → times y l ≤ 1) → tally k l < k
+tally-less zero n l p z h = let q : ⊥ = omega arith in absurd q
+tally-less (suc k) n l p z h = by (eqb n k) refl (λ q. tally-less k n l q z h)
+  where
+    by : (b : Bool) → eqb n k ≡ b → (n < k → tally k l < k) → tally (suc k) l < suc k
+    by true q ih =
+        let e : n ≡ k = eqb-true n k q in
+        let m : times k l ≡ 0 = ap (λ (y : ℕ). times y l) (sym e) ∙ z in
+        let t = tally-most k l h in
+        omega arith
+    by false q ih =
+        let t = ih (lower n k (eqb-false n k q) p) in
+        let s = h k in
+        omega arith
+
+-- numbers below k, none twice and n not among them, are fewer than k
+pub distinct-short : (k n : ℕ) (l : List ℕ) → n < k → all (λ (x : ℕ). ltb x k) l ≡ true → times n l ≡ 0 → ((y : ℕ) → times y l ≤ 1) → length l < k
+distinct-short k n l p a z h = let t = tally-all k l a in let s = tally-less k n l p z h in omega arith

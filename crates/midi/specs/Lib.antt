@@ -1,0 +1,5 @@
+pub mod Bytes
+pub mod Answers
+pub mod Messages
+pub mod Steps
+pub mod Streams
