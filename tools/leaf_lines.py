@@ -52,6 +52,21 @@ class Lines:
         for n in range(256):
             self.say("N", n)
 
+    def floats(self):
+        """The methods of f32: every pair of extremes, then numbers with a whole and a broken part."""
+        ends = sorted({ZERO, NEG_ZERO, LEAST, NEG_LEAST, LEAST_NORMAL, LARGEST_SUB, ONE - 1, ONE, ONE + 1, bits(-1.0), MOST, NEG_MOST,
+                       INF, NINF, NAN, 0xFF800001})
+        for a in ends:
+            for b in ends:
+                self.say("X", a, b)
+        wholes = [0.5, 1.5, 2.0, 2.5, 1e6 + 0.25, 2.0 ** 22 + 0.5, 2.0 ** 23 - 0.5, 2.0 ** 23, 2.0 ** 24, 1e20, 1e-20]
+        for x in wholes:
+            self.say("X", bits(x), bits(-x))
+            self.say("X", bits(-x), bits(x))
+        for _ in range(120):
+            a = self.pick([], 1)
+            self.say("X", a, self.random.choice([a, a ^ 1, a ^ NEG_ZERO, self.pick([], 1)]))
+
     def env(self, a, d, s, r, rate, moves):
         """An envelope and what is done to it: o on, f off, k kill, a number of ticks, or 1*count for single ones."""
         self.say("E", a, d, s, r, rate)
@@ -163,6 +178,7 @@ class Lines:
 def main():
     lines = Lines(int(sys.argv[1]) if len(sys.argv) > 1 else 1)
     lines.notes()
+    lines.floats()
     lines.envelopes()
     lines.copies()
     lines.glides()

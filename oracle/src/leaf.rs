@@ -115,48 +115,76 @@ impl Leaf {
         if all.into_iter().all(|y| y.is_finite()) { 0 } else { 3 }
     }
 
-    fn step(&mut self, op: u8, x: &[u32; 7], out: &mut impl Write) -> Result<()> {
+    /// The methods of f32 that the Rust calls. Of two zeros max is +0, as document 01 says, and min is the first.
+    fn floats(a: f32, b: f32) -> [u32; 8] {
+        let zeros = a == 0.0 && b == 0.0;
+        let order = |x: f32| if x.is_nan() { f32::NAN } else { x };
+        [
+            bits(a.fract()),
+            order(a).total_cmp(&order(b)).is_lt() as u32,
+            if zeros { 0 } else { bits(a.max(b)) },
+            bits(if zeros { a } else { a.min(b) }),
+            bits(a.clamp(0.0, 1.0)),
+            bits(a.clamp(-1.0, 1.0)),
+            a.is_nan() as u32,
+            a.is_finite() as u32,
+        ]
+    }
+
+    /// A line on the envelope: the first word of its answer.
+    fn env_line(&mut self, op: u8, x: &[u32; 7]) -> u32 {
+        match (op, x[0]) {
+            (b'E', _) => return self.new_env(x),
+            (b'T', n) => return self.ticks(n),
+            (_, 0) => self.env.gate_on(),
+            (_, 1) => self.env.gate_off(),
+            _ => self.env.kill(),
+        }
+        0
+    }
+
+    /// A line on the copy. Only a glide answers more than the copy.
+    fn copy_line(&mut self, op: u8, x: &[u32; 7], out: &mut impl Write) -> Result<()> {
         let f = |i: usize| f32::from_bits(x[i]);
         match op {
-            b'N' => return say(out, op, &[bits(Note(x[0] as u8).freq())]),
-            b'E' => {
-                let reply = self.new_env(x);
-                return say(out, op, &self.env_words(reply));
-            }
-            b'G' => {
-                match x[0] {
-                    0 => self.env.gate_on(),
-                    1 => self.env.gate_off(),
-                    _ => self.env.kill(),
-                }
-                return say(out, op, &self.env_words(0));
-            }
-            b'T' => {
-                let sum = self.ticks(x[0]);
-                return say(out, op, &self.env_words(sum));
-            }
-            b'M' => {
-                self.modulation = [0, 1, 2, 3, 4, 5].map(f);
-                return say(out, op, &[probe::is_active(&self.modulation()) as u32]);
-            }
-            b'D' => {
-                let copies = if x[2] <= 8 { probe::copies(x[2] as usize) as u32 } else { x[2] };
-                return say(out, op, &[self.design_reply(x), copies]);
-            }
             b'C' => self.copy = probe::Lone::build(x[0] as usize, x[1] as usize, f(2), f(3), f(4)),
             b'P' => self.copy.graph().glide_pitch(f(0), f(1)),
             b'B' => self.copy.graph().set_bend(f(0)),
             b'F' => self.copy.graph().set_cutoff(f(0)),
-            b'L' => {
+            _ => {
                 for eight in pitch::plan(self.copy.graph(), x[0] as usize).chunks(8) {
                     say(out, b'l', &eight.iter().map(|y| bits(*y)).collect::<Vec<_>>())?;
                 }
             }
-            _ => panic!("no such line"),
         }
         pitch::settle(self.copy.graph());
-        let words = self.copy_words();
-        say(out, op, &words)
+        Ok(())
+    }
+
+    fn step(&mut self, op: u8, x: &[u32; 7], out: &mut impl Write) -> Result<()> {
+        let f = |i: usize| f32::from_bits(x[i]);
+        match op {
+            b'N' => say(out, op, &[bits(Note(x[0] as u8).freq())]),
+            b'X' => say(out, op, &Self::floats(f(0), f(1))),
+            b'E' | b'G' | b'T' => {
+                let first = self.env_line(op, x);
+                say(out, op, &self.env_words(first))
+            }
+            b'C' | b'P' | b'B' | b'F' | b'L' => {
+                self.copy_line(op, x, out)?;
+                let words = self.copy_words();
+                say(out, op, &words)
+            }
+            b'M' => {
+                self.modulation = [0, 1, 2, 3, 4, 5].map(f);
+                say(out, op, &[probe::is_active(&self.modulation()) as u32])
+            }
+            b'D' => {
+                let copies = if x[2] <= 8 { probe::copies(x[2] as usize) as u32 } else { x[2] };
+                say(out, op, &[self.design_reply(x), copies])
+            }
+            _ => panic!("no such line"),
+        }
     }
 }
 

@@ -7,7 +7,10 @@ mod dsp;
 mod host;
 mod instrument;
 mod leaf;
+mod midi;
+mod parse;
 mod patch;
+mod replay;
 mod runtime;
 mod streaming;
 
@@ -19,8 +22,10 @@ fn main() {
     match which.as_str() {
         "leaf" => leaf::run(&mut out),
         "notes" => leaf::notes(&mut out),
+        "replay" => replay::run(&mut out, false),
+        "script" => replay::run(&mut out, true),
         _ => {
-            eprintln!("usage: oracle leaf|notes");
+            eprintln!("usage: oracle leaf|notes|replay|script");
             std::process::exit(2);
         }
     }

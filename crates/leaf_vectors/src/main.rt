@@ -112,6 +112,21 @@ fn note_line(s: &[u8]) {
     say(b'N', [float32::to_bits(n.freq()), 0, 0, 0, 0, 0, 0, 0]);
 }
 
+// X: what float32 makes of two floats.
+fn float_line(s: &[u8]) {
+    let a = float(s, 0);
+    let b = float(s, 1);
+    let fract = float32::to_bits(float32::fract(a));
+    let below = flag(float32::total_below(a, b));
+    let max = float32::to_bits(float32::max(a, b));
+    let min = float32::to_bits(float32::min(a, b));
+    let level = float32::to_bits(float32::clamp(a, 0.0, 1.0));
+    let pan = float32::to_bits(float32::clamp(a, -1.0, 1.0));
+    let nan = flag(float32::is_nan(a));
+    let finite = flag(float32::is_finite(a));
+    say(b'X', [fract, below, max, min, level, pan, nan, finite]);
+}
+
 fn env_number(r: EnvReply) -> u32 {
     match r {
         EnvReply::Ready => 0,
@@ -337,6 +352,10 @@ fn step(leaf: Leaf, letter: u8, s: &[u8]) -> Leaf {
         }
         b'N' => {
             note_line(s);
+            leaf
+        }
+        b'X' => {
+            float_line(s);
             leaf
         }
         _ => leaf,

@@ -1,7 +1,7 @@
 -- Every element passes a test.
 use mathlib.Core.Path.{_≡_, refl}
 use mathlib.Core.Bool.{Bool, true, false, not, _&&_}
-use mathlib.Core.List.{List, [], _∷_}
+use mathlib.Core.List.{List, [], _∷_, map}
 use Prim.Native.Nat.{ℕ, _+_, _<_}
 use native.Mathlib.Omega.{arith}
 use lib.ListN.{length, drop, getD}
@@ -50,3 +50,8 @@ module _ {A : Type 0} (p q : A → Bool) where
       by true false true d h = refl
       by true false false d h = refl
       by false b c d h = refl
+
+module _ {A B : Type 0} where
+  pub all-map : (p : B → Bool) (f : A → B) (xs : List A) → all p (map f xs) ≡ all (λ (a : A). p (f a)) xs
+  all-map p f [] = refl
+  all-map p f (x ∷ xs) = rw (all-map p f xs)

@@ -7,3 +7,4 @@ pub mod Least
 pub mod Pass
 pub mod Every
 pub mod All
+pub mod Found

@@ -42,8 +42,12 @@ module _ {A B : Type 0} where
           order = omega arith;
         }
 
+  -- the first w are left as they are
+  pub pass-from : (s : A → B) (w i : ℕ) (vs : List A) → w ≤ i → Pass s (map s (take w vs)) w i vs vs
+  pass-from s w i vs h = record { front = refl; back = refl; size = refl; order = h }
+
   pub pass-start : (s : A → B) (vs : List A) → Pass s [] 0 0 vs vs
-  pass-start s vs = record { front = refl; back = refl; size = refl; order = omega arith }
+  pass-start s vs = pass-from s 0 0 vs (omega arith)
 
 module _ {A B C : Type 0} where
   -- the view of one more element, through a function on views

@@ -6,7 +6,8 @@ use Prim.Native.Nat.{ℕ, zero, suc, _+_, _≤_, _<_}
 use native.Mathlib.Omega.{arith}
 use native.Mathlib.Numerals.{add-one}
 use lib.Dec.{ltb}
-use lib.ListN.{length, getD, take, drop}
+use borrow.Author.Tests.{lt-ltb, le-ltb}
+use lib.ListN.{length, getD, take, drop, length-take}
 use Rattle.lists.specs.Count.{oneIf, count}
 use Rattle.lists.specs.Prefix.{take-more, drop-more}
 
@@ -40,11 +41,55 @@ module _ {A : Type 0} where
       → findAt p (drop i xs) ≡ suc (findAt p (drop (i + 1) xs))
   find-next p xs i d h e = rw (drop-more xs i d, e)
 
+  -- a search from the end: none passes in what was looked at
+  pub last-none : (p : A → Bool) (xs : List A) → count p xs ≡ 0 → lastAt p xs ≡ length xs
+  last-none p [] e = refl
+  last-none p (x ∷ xs) e = by (p x) refl (last-none p xs)
+    where
+      by : (b : Bool) → p x ≡ b → (count p xs ≡ 0 → lastAt p xs ≡ length xs) → lastAt p (x ∷ xs) ≡ length (x ∷ xs)
+      by true f ih = let q : 1 + count p xs ≡ 0 = rw f at e in let z : ⊥ = omega arith in absurd z
+      by false f ih =
+          let q : 0 + count p xs ≡ 0 = rw f at e in
+          let r = ih (omega arith) in
+          rw (le-ltb (lastAt p xs) (length xs) (omega arith), f)
+
+  pub last-found : (p : A → Bool) (xs : List A) (k : ℕ) (d : A) → k < length xs → p (getD xs k d) ≡ true → count p (drop (suc k) xs) ≡ 0 → lastAt p xs ≡ k
+  last-found p [] k d h e f = let z : ⊥ = omega arith in absurd z
+  last-found p (x ∷ xs) zero d h e f =
+      let r = last-none p xs f in
+      rw (le-ltb (lastAt p xs) (length xs) (omega arith), e)
+  last-found p (x ∷ xs) (suc k) d h e f =
+      let r = last-found p xs k d (omega arith) e f in
+      rw (lt-ltb (lastAt p xs) (length xs) (omega arith)) (omega arith)
+
+  pub count-left : (p : A → Bool) (xs : List A) (i : ℕ) (d : A) → i < length xs
+      → count p (drop i xs) ≡ oneIf (p (getD xs i d)) + count p (drop (i + 1) xs)
+  count-left p xs i d h = rw (drop-more xs i d)
+
   pub without-split : (k : ℕ) (xs : List A) → without k xs ≡ take k xs ++ drop (suc k) xs
   without-split zero [] = refl
   without-split (suc k) [] = refl
   without-split zero (x ∷ xs) = refl
   without-split (suc k) (x ∷ xs) = ap (_∷_ x) (without-split k xs)
+
+  -- a removal that moves down one after the other
+  pub without-none : (k : ℕ) (xs : List A) → without k (take (k + 1) xs) ≡ take k xs
+  without-none k xs = rw add-one (by k xs)
+    where
+      by : (k : ℕ) (xs : List A) → without k (take (suc k) xs) ≡ take k xs
+      by zero [] = refl
+      by zero (x ∷ xs) = refl
+      by (suc k) [] = refl
+      by (suc k) (x ∷ xs) = ap (_∷_ x) (by k xs)
+
+  pub without-append : (k : ℕ) (xs ys : List A) → k < length xs → without k (xs ++ ys) ≡ without k xs ++ ys
+  without-append k [] ys h = let z : ⊥ = omega arith in absurd z
+  without-append zero (x ∷ xs) ys h = refl
+  without-append (suc k) (x ∷ xs) ys h = ap (_∷_ x) (without-append k xs ys (omega arith))
+
+  pub without-more : (k i : ℕ) (xs : List A) (d : A) → k < i → i < length xs
+      → without k (take (i + 1) xs) ≡ without k (take i xs) ++ (getD xs i d ∷ [])
+  without-more k i xs d h l = rw (take-more xs i d) (without-append k (take i xs) (getD xs i d ∷ []) (simp length-take (omega arith)))
 
   pub kept-append : (p : A → Bool) (xs ys : List A) → kept p (xs ++ ys) ≡ kept p xs ++ kept p ys
   kept-append p [] ys = refl

@@ -1,14 +1,14 @@
 -- Laws on the first elements of a list, at the code's `i + 1`, for loops that count up.
 use mathlib.Core.Path.{_≡_, refl, ap, sym, _∙_}
 use mathlib.Core.List.{List, [], _∷_, _++_, map, append-assoc, map-append}
-use Prim.Native.Nat.{ℕ, zero, suc, _+_, _≤_, _<_, min}
-use mathlib.Core.Bool.{Bool, true, false}
+use Prim.Native.Nat.{ℕ, zero, suc, _+_, _-_, _≤_, _<_, min}
 use native.Mathlib.Numerals.{add-one}
 use native.Mathlib.Omega.{arith}
-use lib.ListN.{length, take, drop, getD, set, length-append, length-take, length-drop, length-map, List·getD-map}
-use lib.Seq.{drop-cons, take-suc, getD-take, getD-at, set-at, take-at, take-set-lt, take-all}
-use lib.Dec.{leb}
-use borrow.Author.Tests.{leb-true, leb-false}
+use mathlib.Core.Bool.{Bool, true, false}
+use borrow.Author.Tests.{leb-true, leb-false, ltb-true, ltb-false}
+use lib.Dec.{leb, ltb}
+use lib.ListN.{length, take, drop, getD, set, length-append, length-take, length-drop, length-map, List·getD-map, List·getD-append}
+use lib.Seq.{take-all, drop-cons, take-suc, getD-take, getD-at, set-at, take-at, take-set-lt}
 
 module _ {A : Type 0} where
   pub take-more : (xs : List A) (i : ℕ) (d : A) → i < length xs → take (i + 1) xs ≡ take i xs ++ (getD xs i d ∷ [])
@@ -17,21 +17,32 @@ module _ {A : Type 0} where
   pub drop-more : (xs : List A) (i : ℕ) (d : A) → i < length xs → drop i xs ≡ getD xs i d ∷ drop (i + 1) xs
   drop-more xs i d h = rw (add-one, drop-cons xs i d)
 
-  -- a pass that stops at the array's end
-  pub take-least : (n k : ℕ) (xs : List A) → length xs ≡ k → take (min n k) xs ≡ take n xs
-  take-least n k xs e = by (leb n k) refl
-    where
-      by : (b : Bool) → leb n k ≡ b → take (min n k) xs ≡ take n xs
-      by true h = let l = leb-true n k h in let m : min n k ≡ n = omega arith in ap (λ (i : ℕ). take i xs) m
-      by false h =
-          let l = leb-false n k h in
-          take-all (min n k) xs (omega arith) ∙ sym (take-all n xs (omega arith))
-
   -- within the list the default is not looked at
   pub getD-any : (xs : List A) (i : ℕ) (a b : A) → i < length xs → getD xs i a ≡ getD xs i b
   getD-any [] i a b h = let z : ⊥ = omega arith in absurd z
   getD-any (x ∷ xs) zero a b h = refl
   getD-any (x ∷ xs) (suc i) a b h = getD-any xs i a b (omega arith)
+
+  -- of an array of size m there are no more than m
+  pub take-min : (n m : ℕ) (xs : List A) → length xs ≡ m → take (min n m) xs ≡ take n xs
+  take-min n m xs e = by (leb n m) refl
+    where
+      by : (b : Bool) → leb n m ≡ b → take (min n m) xs ≡ take n xs
+      by true h = let q : n ≤ m = leb-true _ _ h in let f : min n m ≡ n = omega arith in rw f
+      by false h =
+          let q : m < n = leb-false _ _ h in
+          take-all (min n m) xs (omega arith) ∙ sym (take-all n xs (omega arith))
+
+  -- what holds of each element and of one more
+  pub each-more : (d : A) (P : A → Type 0) (xs : List A) (a : A) → ((j : ℕ) → j < length xs → P (getD xs j d)) → P a
+      → (j : ℕ) → j < length xs + 1 → P (getD (xs ++ (a ∷ [])) j d)
+  each-more d P xs a f g j h = by (ltb j (length xs)) refl
+    where
+      by : (b : Bool) → ltb j (length xs) ≡ b → P (getD (xs ++ (a ∷ [])) j d)
+      by true e = let q : j < length xs = ltb-true _ _ e in rw (List·getD-append xs (a ∷ []) d j q) (f j q)
+      by false e =
+          let q : length xs ≤ j = ltb-false _ _ e in
+          rw (getD-at xs a [] d j (omega arith)) g
 
 module _ {A B : Type 0} where
   -- from the left: what a loop computes
@@ -76,6 +87,11 @@ module _ {A B : Type 0} where
   shown-any f n xs i d e hn hi =
       let size = shown-length f n xs hn in
       getD-any (map f (take n xs)) i e (f d) (omega (arith, size)) ∙ shown-at f n xs i d hi
+
+-- a change of elements that the view turns into a change of what is seen
+pub map-through : {A B : Type 0} (s : A → B) (f : A → A) (g : B → B) → ((a : A) → s (f a) ≡ g (s a)) → (xs : List A) → map s (map f xs) ≡ map g (map s xs)
+map-through s f g h [] = refl
+map-through s f g h (x ∷ xs) = rw (h x, map-through s f g h xs)
 
 -- A pass that maps the first i elements in place has `map f (take i xs) ++ drop i xs`.
 module _ {A : Type 0} (f : A → A) where

@@ -1,9 +1,9 @@
 //! Reaches the private part of the instrument.
 
-use super::{Instrument, InstrumentDesign, Modulation, Note, PlayMode, UnisonCopy};
-use crate::dsl::Adsr;
+use super::{Instrument, InstrumentDesign, Modulation, Note, UnisonCopy, VoiceHandle};
 use crate::patch::Patch;
 use crate::streaming::StreamGraph;
+use crate::streaming::probe as pitch;
 
 pub(crate) use super::envelope::probe as envelope;
 
@@ -43,4 +43,82 @@ pub(crate) fn copies(unison: usize) -> usize {
     design.unison = unison;
     let inst = Instrument::new(design, 48_000).expect("the plain patch builds");
     inst.build_copies(Note::A4, 1.0).expect("the plain patch builds").len()
+}
+
+/// A row of the voice table.
+pub(crate) struct Row {
+    pub(crate) handle: u64,
+    pub(crate) note: u8,
+    pub(crate) releasing: bool,
+    pub(crate) sustained: bool,
+    pub(crate) level: f32,
+}
+
+pub(crate) fn rows(inst: &Instrument) -> Vec<Row> {
+    let row = |v: &super::Voice| Row {
+        handle: v.handle,
+        note: v.note.0,
+        releasing: v.releasing,
+        sustained: v.sustained,
+        level: v.env.level(),
+    };
+    inst.voices.iter().map(row).collect()
+}
+
+/// A voice's handle, and its copies: gains and pitch.
+pub(crate) fn stacks(inst: &Instrument) -> Vec<(u64, Vec<(f32, f32, pitch::Pitch)>)> {
+    let copy = |c: &UnisonCopy| (c.l, c.r, pitch::read(&c.graph));
+    inst.voices.iter().map(|v| (v.handle, v.copies.iter().map(copy).collect())).collect()
+}
+
+/// Every graph, voice by voice, copy by copy.
+pub(crate) fn graphs(inst: &mut Instrument) -> impl Iterator<Item = &mut StreamGraph> {
+    inst.voices.iter_mut().flat_map(|v| v.copies.iter_mut()).map(|c| &mut c.graph)
+}
+
+/// The instrument beside its table.
+pub(crate) struct Whole {
+    pub(crate) next: u64,
+    pub(crate) pedal: bool,
+    pub(crate) bend: f32,
+    pub(crate) brightness: f32,
+    pub(crate) phases: [f32; 3],
+    pub(crate) gain: f32,
+    pub(crate) held: Vec<u8>,
+}
+
+pub(crate) fn whole(inst: &Instrument) -> Whole {
+    Whole {
+        next: inst.next_handle,
+        pedal: inst.sustain,
+        bend: inst.bend,
+        brightness: inst.brightness,
+        phases: [inst.vib_phase, inst.flt_phase, inst.trem_phase],
+        gain: inst.trem,
+        held: inst.held.iter().map(|n| n.0).collect(),
+    }
+}
+
+pub(crate) fn note_on(inst: &mut Instrument, note: u8, velocity: f32) -> u64 {
+    inst.note_on(Note(note), velocity).0
+}
+
+pub(crate) fn release(inst: &mut Instrument, handle: u64) -> bool {
+    inst.release(VoiceHandle(handle))
+}
+
+pub(crate) fn in_table(inst: &Instrument, handle: u64) -> bool {
+    inst.is_active(VoiceHandle(handle))
+}
+
+pub(crate) fn modulated(inst: &Instrument) -> bool {
+    inst.design.modulation.is_active()
+}
+
+pub(crate) fn apply_modulation(inst: &mut Instrument, frames: usize) {
+    inst.apply_modulation(frames);
+}
+
+pub(crate) fn render_block(inst: &mut Instrument, out: &mut [f32]) {
+    inst.render_block(out);
 }

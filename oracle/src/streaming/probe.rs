@@ -44,16 +44,16 @@ pub(crate) fn plan(g: &mut StreamGraph, n: usize) -> Vec<f32> {
     curve
 }
 
-/// Plans n pitch numbers and keeps them for `rewind`. The graph stands as after them.
+/// Plans n pitch numbers and keeps them for the Mix to meet. The graph stands as after them.
 pub(crate) fn open(g: &mut StreamGraph, n: usize) -> &[f32] {
     let curve = plan(g, n);
     let src = source(g);
     src.planned = curve;
     src.met = 0;
-    &source(g).planned
+    &src.planned
 }
 
-/// Puts the pitch back to where it stood before `open`, so that the graph's own fill glides over the block itself.
+/// Puts the pitch back to what it was before `open`, so that the graph's own fill glides over the block itself.
 pub(crate) fn rewind(g: &mut StreamGraph, before: f32) {
     g.pitch = before;
 }
