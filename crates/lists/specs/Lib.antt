@@ -8,3 +8,4 @@ pub mod Pass
 pub mod Every
 pub mod All
 pub mod Found
+pub mod Parts

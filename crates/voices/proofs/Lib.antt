@@ -1,0 +1,5 @@
+pub mod Laws
+pub mod Sizes
+pub mod Table
+pub mod Born
+pub mod Glides
