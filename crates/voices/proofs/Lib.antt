@@ -3,3 +3,4 @@ pub mod Sizes
 pub mod Table
 pub mod Born
 pub mod Glides
+pub mod Stealing

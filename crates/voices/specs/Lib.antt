@@ -1,3 +1,4 @@
 pub mod View
 pub mod Changes
 pub mod Glides
+pub mod Steal

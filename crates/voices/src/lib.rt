@@ -25,6 +25,8 @@ use envelope::EnvGen;
 use note::Note;
 use stream::UnisonCopy;
 
+pub mod steal;
+
 pub struct Voice {
     pub handle: u64,
     pub note: Note,
