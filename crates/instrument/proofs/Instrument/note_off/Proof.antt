@@ -1,0 +1,37 @@
+use mathlib.Core.Path.{refl, sym, _∙_}
+use Rattle.instrument.proofs.Calls.{free, barred-call}
+use Rattle.instrument.proofs.Offs.{note-off-call}
+use borrow.Author.Needs.{needs}
+use Rattle.instrument.proofs.Instrument.note_off.Statement.{statement}
+use Rattle.instrument.proofs.Instrument.note_off.Tie as tie
+use Rattle.instrument.proofs.Instrument.note_off.Reads as reads
+use Rattle.instrument.proofs.Instrument.note_off.Lts as lts
+use Rattle.instrument.proofs.Instrument.barred.Reads as barred-reads
+use Rattle.instrument.proofs.Instrument.off.Reads as off-reads
+use Rattle.instrument.proofs.refused.Reads as refused-reads
+
+-- src/lib.rt:708:13
+barred-requires : tie.Need-barred-requires
+barred-requires c κs = search needs
+
+-- src/lib.rt:710:13
+refused-requires : tie.Need-refused-requires
+refused-requires c κs = search needs
+
+-- src/lib.rt:710:13
+returns : tie.Need-returns
+returns c = barred-call _ _ _ _ refl (c .before .before .barred .ensures) (c .before .if1 .taken) (c .refused .ensures)
+
+-- src/lib.rt:712:9
+off-requires : tie.Need-off-requires
+off-requires c κs = search needs
+
+-- src/lib.rt:705:5
+returns-2 : tie.Need-returns-2
+returns-2 c =
+    let b = c .before in
+    note-off-call _ _ _ (free _ (sym (b .before .barred .ensures) ∙ b .if1 .left)) (c .off .ensures (sym (b .before .barred .ensures) ∙ b .if1 .left))
+
+pub note-off-spec : {M : Type 1} → statement M
+note-off-spec =
+    tie.close (tie.spec barred-requires refused-requires returns off-requires returns-2)

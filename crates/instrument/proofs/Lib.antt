@@ -1,0 +1,12 @@
+pub mod Checks
+pub mod Sizes
+pub mod Flags
+pub mod Holding
+pub mod Parts
+pub mod Formed
+pub mod Calls
+pub mod Controls
+pub mod Starts
+pub mod Queries
+pub mod Offs
+pub mod Ons

@@ -1,0 +1,93 @@
+-- The ways out of the queries.
+use mathlib.Core.Path.{_≡_, refl, ap, sym, _∙_}
+use mathlib.Core.Bool.{Bool, true, false, _&&_}
+use mathlib.Core.List.{List, [], _∷_}
+use Prim.Native.Nat.{ℕ, zero, suc, _≤_, _<_}
+use native.Mathlib.Omega.{arith}
+use borrow.Author.Tests.{ltb-true}
+use lib.Dec.{ltb}
+use lib.ListN.{length, getD, length-map, length-take}
+use Rattle.lists.specs.Choose.{both, clash, cond-true, cond-false}
+use Rattle.lists.specs.Count.{oneIf, count}
+use Rattle.lists.specs.Places.{findAt}
+use Rattle.lists.specs.Found.{find-passes, find-missed}
+use Rattle.model.specs.Types as M
+use Rattle.model.specs.Formed.{wellFormed}
+use Rattle.model.specs.Queries as Q
+use Rattle.model.specs.Queries.{isActive, activeVoices, soundsNote, SomeVoice, VoiceOf}
+use Rattle.model.specs.Voices.{handleAt, isPlace, placeOf, hasHandle}
+use Rattle.voices.specs.View.{shown, voicesOf}
+use Rattle.voices.specs.declared.Voice.{Voice}
+use Rattle.instrument.specs.View.{view, counted, formed}
+use Rattle.instrument.specs.Asked.{answerOf, askedOf, VoiceAs}
+use Rattle.instrument.specs.declared.Instrument.{Instrument}
+use Rattle.instrument.specs.declared.Answer.{Answer}
+use Rattle.instrument.specs.declared.Answer.the-variants.{Active, Voices, Handle, NoHandle, Refused}
+use Rattle.instrument.proofs.Calls.{counts}
+use Rattle.instrument.proofs.Formed.{tableOf, voice-at}
+
+-- a state that is not well formed, on its counts or on what it stands for
+module _ (s : Instrument) (e : formed s ≡ false) where
+  module _ (a : Q.Answer) (f : wellFormed (view s) ≡ false → Q.Answer.refused 1 ≡ a) where
+    pub asked-refused : Q.Answer.refused 1 ≡ askedOf s a
+    unfolding askedOf formed
+    asked-refused = by (counted s) refl
+      where
+        by : (b : Bool) → counted s ≡ b → Q.Answer.refused 1 ≡ askedOf s a
+        by true p = let w : wellFormed (view s) ≡ false = rw p at e in rw p (f w)
+        by false p = rw p
+
+  pub active-refused : (h : ℕ) → Q.Answer.refused 1 ≡ askedOf s (isActive (view s) h)
+  unfolding isActive
+  active-refused h = asked-refused _ (λ w. rw w)
+
+  pub voices-refused : Q.Answer.refused 1 ≡ askedOf s (activeVoices (view s))
+  unfolding activeVoices
+  voices-refused = asked-refused _ (λ w. rw w)
+
+  pub voice-refused : (n : ℕ) → VoiceAs s n (Refused 1)
+  unfolding VoiceOf formed
+  voice-refused n = record { inRoom = λ p. ((rw p at e), refl); beyond = λ _. refl }
+
+-- a state that is well formed
+module _ (s : Instrument) (e : formed s ≡ true) (lv : length (s .voices) ≡ 64) where
+  fine : (counted s ≡ true) × (wellFormed (view s) ≡ true)
+  unfolding formed
+  fine = both (counted s) (wellFormed (view s)) e
+
+  table-size : length (voicesOf (tableOf s)) ≡ s .«voice_count»
+  table-size = let k = counts s (fine .0) .voices64 in simp (length-map, length-take) (omega arith)
+
+  pub active-found : (h k : ℕ) → k ≡ findAt (hasHandle h) (voicesOf (tableOf s)) → Q.Answer.active (ltb k (s .«voice_count»)) ≡ askedOf s (isActive (view s) h)
+  unfolding askedOf isActive isPlace placeOf view
+  active-found h k q = rw (fine .0, fine .1, table-size, q)
+
+  pub voices-found : Q.Answer.voices (s .«voice_count») ≡ askedOf s (activeVoices (view s))
+  unfolding askedOf activeVoices view
+  voices-found = rw (fine .0, fine .1, table-size)
+
+  module _ (n k : ℕ) (q : k ≡ findAt (soundsNote n) (voicesOf (tableOf s))) where
+    pub voice-none : s .«voice_count» ≤ k → VoiceAs s n NoHandle
+    unfolding VoiceOf view
+    voice-none h =
+        let l = table-size in
+        record { inRoom = λ _. (fine .1, find-missed (soundsNote n) (voicesOf (tableOf s)) (omega arith)); beyond = λ x. absurd (x (fine .0)) }
+
+    pub voice-some : (d : Voice) → k < s .«voice_count» → VoiceAs s n (Handle (getD (s .voices) k d .handle))
+    unfolding VoiceOf view shown
+    voice-some d h =
+        let l = table-size in
+        let z = counts s (fine .0) .voices64 in
+        let v = voice-at s k d (omega arith) h in
+        record {
+          inRoom = λ _. (
+            fine .1,
+            record {
+              place = k;
+              inside = omega arith;
+              names = ap (λ (x : M.Voice). x .handle) v;
+              sounds = rw q (find-passes (soundsNote n) M.noVoice (voicesOf (tableOf s)) (omega arith));
+            },
+          );
+          beyond = λ x. absurd (x (fine .0));
+        }

@@ -1,0 +1,154 @@
+-- What a call on a state promises: its reply, the next state through its view, and on a refusal the very state given
+-- (document 01, "What a call replies").
+use mathlib.Core.Path.{_≡_}
+use mathlib.Core.Bool.{Bool, true, false, cond}
+use mathlib.Core.List.{List, []}
+use lib.Dec.{eqb}
+use lib.Ieee.{Float}
+use Rattle.voices.specs.declared.Voice.{Voice}
+use Rattle.voices.specs.View.{seenFirst, voicesOf, inRoom}
+use Rattle.model.specs.Notes.{fallenBack, newNote, goesOn, monoOn}
+use Rattle.instrument.specs.declared.Held.{Held}
+use Rattle.float32.specs.Numbers.{zero as +0}
+use Prim.Native.Nat.{ℕ}
+use Rattle.design.specs.declared.DesignReply.{DesignReply}
+use Rattle.design.specs.declared.InstrumentDesign.{InstrumentDesign}
+use Rattle.design.specs.Accepted.{designReply, isAccepted}
+use Rattle.model.specs.Types as model
+use Rattle.model.specs.Step.{refusal, step}
+use Rattle.model.specs.Start.{fresh, zeroState}
+use Rattle.instrument.specs.View.{view, counted, formed}
+use Rattle.instrument.specs.declared.Instrument.{Instrument}
+use Rattle.instrument.specs.declared.NewInstrument.{NewInstrument}
+use Rattle.instrument.specs.declared.Outcome.{Outcome}
+use Rattle.instrument.specs.declared.Reply.{Reply}
+use Rattle.instrument.specs.declared.Reply.the-variants.{Started, Silent, Kept, Off, Done, Released, Planned, Refused}
+
+-- document 01's reply, with its number and values, for each case
+abbrev pub replyOf : Reply → model.Reply
+replyOf (Started handle killed taken) = model.Reply.started handle killed taken
+replyOf (Silent handle) = model.Reply.silent handle
+replyOf (Kept handle) = model.Reply.kept handle
+replyOf (Off found) = model.Reply.off found
+replyOf Done = model.Reply.done
+replyOf (Released found) = model.Reply.released found
+replyOf Planned = model.Reply.planned
+replyOf (Refused n) = model.Reply.refused n
+
+-- the number of the refusal, 0 where the call is accepted: a count beyond its array is refusal 1 before anything else is read
+unfoldable pub refusalOf : Instrument → model.Call → ℕ
+refusalOf s c = cond (counted s) (refusal (view s) c) 1
+
+-- the reply that the definitions give
+unfoldable pub replyTo : Instrument → model.Call → model.Reply
+replyTo s c = cond (counted s) (step (view s) c .reply) (model.Reply.refused 1)
+
+pub record CallAs (s : Instrument) (c : model.Call) (r : Outcome) : Type 0 where
+  pub reply : replyOf (r .reply) ≡ replyTo s c
+  -- "The state .. comes back equal", with what stands behind its counts
+  pub refused : (refusalOf s c ≡ 0 → ⊥) → r .state ≡ s
+  pub inRoom : refusalOf s c ≡ 0 → counted (r .state) ≡ true
+  pub next : refusalOf s c ≡ 0 → view (r .state) ≡ step (view s) c .model
+
+-- a state with no voice and nothing held, whose scales are all `scale`
+unfoldable pub emptyModel : InstrumentDesign → ℕ → Float → model.Model
+emptyModel d next scale = record {
+  design = d;
+  voices = [];
+  next = next;
+  pedal = false;
+  bend = scale;
+  brightness = scale;
+  vibPhase = +0;
+  fltPhase = +0;
+  tremPhase = +0;
+  trem = scale;
+  held = [];
+  frames = 0;
+}
+
+-- a start: "2, 3 at the start"; "a refused start comes with a state of zeros, Poly, no block open"
+pub record StartAs (d : InstrumentDesign) (r : NewInstrument) : Type 0 where
+  pub reply : r .reply ≡ designReply d
+  pub inRoom : counted (r .state) ≡ true
+  pub state : view (r .state) ≡ cond (isAccepted d) (fresh d) zeroState
+
+-- what a call gives where the checks have passed: a reply, and a state in room whose view is the next model
+pub record Gives (o : model.Outcome) (r : Outcome) : Type 0 where
+  pub reply : replyOf (r .reply) ≡ o .reply
+  pub inRoom : counted (r .state) ≡ true
+  pub next : view (r .state) ≡ o .model
+
+-- ---- the parts that the calls are made of
+
+abbrev pub answeredAs : Reply → Instrument → Outcome
+answeredAs r s = record { reply = r; state = s }
+
+abbrev pub refusedAs : Instrument → ℕ → Outcome
+refusedAs s n = answeredAs (Refused n) s
+
+-- what bars a call other than Mix: refusal 1, then 5
+unfoldable pub barredBy : Instrument → ℕ
+barredBy s = cond (formed s) (cond (eqb (s .frames) 0) 0 5) 1
+
+unfoldable pub placedAs : Instrument → List Voice → ℕ → ℕ → Bool → Held → Instrument
+placedAs s vs count next sustain held = record {
+  design = s .design;
+  voices = vs;
+  «voice_count» = count;
+  «next_handle» = next;
+  sustain = sustain;
+  bend = s .bend;
+  brightness = s .brightness;
+  «vib_phase» = s .«vib_phase»;
+  «flt_phase» = s .«flt_phase»;
+  «trem_phase» = s .«trem_phase»;
+  trem = s .trem;
+  held = held .notes;
+  «held_count» = held .count;
+  frames = s .frames;
+}
+
+abbrev pub holdingOf : Instrument → Held
+holdingOf s = record { notes = s .held; count = s .«held_count» }
+
+abbrev pub tabledAs : Instrument → List Voice → Instrument
+tabledAs s vs = placedAs s vs (s .«voice_count») (s .«next_handle») (s .sustain) (holdingOf s)
+
+unfoldable pub tunedAs : Instrument → List Voice → Float → Float → Instrument
+tunedAs s vs bend brightness = record {
+  design = s .design;
+  voices = vs;
+  «voice_count» = s .«voice_count»;
+  «next_handle» = s .«next_handle»;
+  sustain = s .sustain;
+  bend = bend;
+  brightness = brightness;
+  «vib_phase» = s .«vib_phase»;
+  «flt_phase» = s .«flt_phase»;
+  «trem_phase» = s .«trem_phase»;
+  trem = s .trem;
+  held = s .held;
+  «held_count» = s .«held_count»;
+  frames = s .frames;
+}
+
+-- the table of a Mono note-off with these notes still held
+pub record FallsBack (s : Instrument) (held : List ℕ) (ws : List Voice) : Type 0 where
+  pub room : inRoom (seenFirst (s .«voice_count») ws) ≡ true
+  pub voices : voicesOf (seenFirst (s .«voice_count») ws) ≡ fallenBack (view s) held
+
+-- the largest next handle: none is left
+abbrev pub lastHandle : ℕ
+lastHandle = 0xffff_ffff_ffff_ffff
+
+-- a new handle with these notes held, or refusal 8
+pub record StrikeAs (s : Instrument) (held : List ℕ) (note : ℕ) (velocity : Float) (built : Bool) (r : Outcome) : Type 0 where
+  pub spent : s .«next_handle» ≡ lastHandle → r ≡ refusedAs s 8
+  pub gives : (s .«next_handle» ≡ lastHandle → ⊥) → Gives (newNote (view s) held note velocity built) r
+
+-- Mono: the voice that sounds goes on; otherwise a new handle, or refusal 8
+pub record MonoAs (s : Instrument) (legato : Bool) (note : ℕ) (velocity : Float) (built : Bool) (r : Outcome) : Type 0 where
+  pub goes : goesOn (view s) ≡ true → Gives (monoOn (view s) legato note velocity built) r
+  pub spent : goesOn (view s) ≡ false → s .«next_handle» ≡ lastHandle → r ≡ refusedAs s 8
+  pub gives : goesOn (view s) ≡ false → (s .«next_handle» ≡ lastHandle → ⊥) → Gives (monoOn (view s) legato note velocity built) r

@@ -1,0 +1,5 @@
+pub mod View
+pub mod Check
+pub mod Held
+pub mod Calls
+pub mod Asked

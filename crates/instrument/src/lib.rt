@@ -1,0 +1,829 @@
+// The instrument (the Rust's instrument/mod.rs): the voice table and the calls on it.
+
+ghost use mathlib.Core.Path.{_≡_};
+ghost use mathlib.Core.List.{map};
+ghost use Prim.Native.Nat.{_<_, _≤_, min};
+ghost use mathlib.Core.Bool.{false};
+ghost use lib.ListN.{take, replicate};
+ghost use Rattle.lists.specs.All.{all};
+ghost use Rattle.lists.specs.Perms.{distinct};
+ghost use Rattle.design.specs.Accepted.{isAccepted};
+ghost use Rattle.model.specs.Formed.{framesFit, blockFits};
+ghost use Rattle.model.specs.Voices.{handles};
+ghost use Rattle.voices.specs.View.{seen, seenFirst, voicesOf};
+ghost use Rattle.instrument.specs.View.{heldFirst, view, counted, formed};
+ghost use Rattle.model.specs.Start.{zeroDesign};
+ghost use Rattle.instrument.specs.Calls.{emptyModel, refusedAs, answeredAs, barredBy, placedAs, holdingOf, tabledAs, tunedAs, FallsBack, lastHandle, StrikeAs, MonoAs, CallAs, StartAs, Gives};
+ghost use Rattle.instrument.specs.Asked.{answerOf, askedOf, VoiceAs};
+ghost use Rattle.model.specs.Queries.{isActive, activeVoices};
+ghost use Rattle.model.specs.Notes.{velocityOf, polyOff, monoOff, noteOffOf, startedNote};
+ghost use Rattle.model.specs.Types.{Call};
+ghost use mathlib.Core.Bool.{true};
+ghost use Rattle.instrument.specs.Held.{WithoutNote, WithNote};
+ghost use Rattle.instrument.specs.Check.{stageAgrees, voiceFits, risesFrom, modeAgrees, tablesFit};
+use design::Adsr;
+use design::DesignReply;
+use design::InstrumentDesign;
+use design::Modulation;
+use design::PlayMode;
+use envelope::EnvGen;
+use envelope::Stage;
+use note::Note;
+use stream::UnisonCopy;
+use voices::CopyChange;
+use voices::Voice;
+use voices::VoiceChange;
+use voices::VoiceTest;
+
+pub struct Instrument {
+    pub design: InstrumentDesign,
+    // Live voices in order of birth, up to `voice_count`.
+    pub voices: [Voice; 64],
+    pub voice_count: usize,
+    pub next_handle: u64,
+    // Sustain pedal: while down, note-offs wait for it.
+    pub sustain: bool,
+    // Pitch wheel as a frequency factor.
+    pub bend: f32,
+    pub brightness: f32,
+    // Phases of the modulation, from 0 to 1.
+    pub vib_phase: f32,
+    pub flt_phase: f32,
+    pub trem_phase: f32,
+    // Present tremolo gain.
+    pub trem: f32,
+    // Notes held in Mono, oldest first, up to `held_count`.
+    pub held: [Note; 256],
+    pub held_count: usize,
+    // Frames of the open block, 0 where none is open.
+    pub frames: usize,
+}
+
+// What a call replies; the number is that of the refusal.
+pub enum Reply {
+    // A new handle with its voice; the handles killed and taken out, 0 for none.
+    Started(u64, u64, u64),
+    // A new handle, and no voice.
+    Silent(u64),
+    // The Mono voice that goes on.
+    Kept(u64),
+    // Whether a voice or a held note was found.
+    Off(bool),
+    Done,
+    Released(bool),
+    Planned,
+    Refused(u8),
+}
+
+pub struct Outcome {
+    pub reply: Reply,
+    pub state: Instrument,
+}
+
+// What a query answers.
+pub enum Answer {
+    Active(bool),
+    Voices(usize),
+    Handle(u64),
+    NoHandle,
+    Refused(u8),
+}
+
+pub struct NewInstrument {
+    pub reply: DesignReply,
+    pub state: Instrument,
+}
+
+// The smaller of two: a pass never leaves its array.
+fn least(a: usize, b: usize) -> usize
+    ensures { λ r. ⌜ r ≡ min a b ⌝ }
+{
+    if a < b { a } else { b }
+}
+
+// Whether a stage goes with `releasing`, and is not Idle.
+fn stage_fits(stage: Stage, releasing: bool) -> bool
+    ensures { λ b. ⌜ b ≡ stageAgrees stage releasing ⌝ }
+{
+    match stage {
+        Stage::Idle => false,
+        Stage::Attack => !releasing,
+        Stage::Decay => !releasing,
+        Stage::Sustain => !releasing,
+        Stage::Release => releasing,
+    }
+}
+
+fn voice_fits(v: Voice, next: u64, copies: usize) -> bool
+    ensures { λ b. ⌜ b ≡ voiceFits next copies (seen v) ⌝ }
+{
+    if 8 < v.copy_count {
+        return false;
+    }
+    if v.handle < 1 {
+        return false;
+    }
+    if next <= v.handle {
+        return false;
+    }
+    if v.copy_count != copies {
+        return false;
+    }
+    let env = v.env;
+    let stage = env.stage;
+    stage_fits(stage, v.releasing)
+}
+
+// Whether each of the first n voices fits by itself.
+fn voices_fit(vs: [Voice; 64], n: usize, next: u64, copies: usize) -> bool
+    ensures { λ b. ⌜ b ≡ all (voiceFits next copies) (seenFirst n vs) ⌝ }
+{
+    let end = least(n, 64);
+    let mut i: usize = 0;
+    while i < end {
+        if !voice_fits(vs[i], next, copies) {
+            return false;
+        }
+        i += 1;
+    }
+    true
+}
+
+// Whether the handles rise from voice to voice, as they do where no state was made up: then no two are equal.
+fn handles_rise(vs: [Voice; 64], n: usize) -> bool
+    ensures { λ b. ⌜ b ≡ risesFrom 0 (handles (voicesOf (seenFirst n vs))) ⌝ }
+{
+    let end = least(n, 64);
+    let mut low: u64 = 0;
+    let mut i: usize = 0;
+    while i < end {
+        let v = vs[i];
+        if v.handle <= low {
+            return false;
+        }
+        low = v.handle;
+        i += 1;
+    }
+    true
+}
+
+// A note's place among 256 flags.
+fn place(note: Note) -> usize
+    ensures { λ r. ⌜ (r ≡ note .0) × (r < 256) ⌝ }
+{
+    let n = note.0;
+    n as usize
+}
+
+// A flag for each note, none set.
+fn no_flags() -> [bool; 256]
+    ensures { λ r. ⌜ r ≡ replicate 256 false ⌝ }
+{
+    [false; 256]
+}
+
+// Whether no note is held twice, by a flag for each note.
+fn held_distinct(held: [Note; 256], n: usize) -> bool
+    ensures { λ b. ⌜ b ≡ distinct (heldFirst n held) ⌝ }
+{
+    let end = least(n, 256);
+    let mut seen = no_flags();
+    let mut i: usize = 0;
+    while i < end {
+        let x = place(held[i]);
+        if seen[x] {
+            return false;
+        }
+        seen[x] = true;
+        i += 1;
+    }
+    true
+}
+
+// Whether no handle stands twice. Only a table whose handles do not rise is compared in full.
+fn handles_distinct(vs: [Voice; 64], n: usize) -> bool
+    ensures { λ b. ⌜ b ≡ distinct (handles (voicesOf (seenFirst n vs))) ⌝ }
+{
+    if handles_rise(vs, n) {
+        return true;
+    }
+    let end = least(n, 64);
+    let mut i: usize = 0;
+    while i < end {
+        let v = vs[i];
+        if 1 < voices::count_of(vs, n, VoiceTest::Handle(v.handle)) {
+            return false;
+        }
+        i += 1;
+    }
+    true
+}
+
+fn is_accepted(design: InstrumentDesign) -> bool
+    ensures { λ b. ⌜ b ≡ isAccepted design ⌝ }
+{
+    let reply = design.accepted();
+    match reply {
+        DesignReply::Accepted => true,
+        DesignReply::Refused(_) => false,
+    }
+}
+
+// Whether a block may have n frames: fewer where the modulation is active.
+fn frames_fit(design: InstrumentDesign, n: usize) -> bool
+    ensures { λ b. ⌜ b ≡ framesFit design n ⌝ }
+{
+    if n < 1 {
+        return false;
+    }
+    let modulation = design.modulation;
+    if modulation.is_active() {
+        return n <= 64;
+    }
+    n <= 1024
+}
+
+fn block_fits(design: InstrumentDesign, frames: usize) -> bool
+    ensures { λ b. ⌜ b ≡ blockFits design frames ⌝ }
+{
+    if frames == 0 {
+        return true;
+    }
+    frames_fit(design, frames)
+}
+
+// In Poly nothing is held; in Mono at most one voice is not releasing.
+fn mode_fits(mode: PlayMode, held: usize, sounding: usize) -> bool
+    ensures { λ b. ⌜ b ≡ modeAgrees mode held sounding ⌝ }
+{
+    match mode {
+        PlayMode::Poly => held == 0,
+        PlayMode::Mono { legato: _ } => sounding <= 1,
+    }
+}
+
+impl Instrument {
+    // Check 1, the design, the counts and the handles.
+    pub fn well_formed(self) -> bool
+        ensures { λ b. ⌜ b ≡ formed self ⌝ }
+    {
+        let n = self.voice_count;
+        let h = self.held_count;
+        let design = self.design;
+        if 64 < n {
+            return false;
+        }
+        if 256 < h {
+            return false;
+        }
+        if !is_accepted(design) {
+            return false;
+        }
+        if 2 * (design.max_voices as usize) < n {
+            return false;
+        }
+        if self.next_handle < 1 {
+            return false;
+        }
+        if !block_fits(design, self.frames) {
+            return false;
+        }
+        self.tables_formed()
+    }
+
+    // Check 1, the tables, where the rest has passed.
+    fn tables_formed(self) -> bool
+        ensures { λ b. ⌜ b ≡ tablesFit self ⌝ }
+    {
+        let n = self.voice_count;
+        let h = self.held_count;
+        let design = self.design;
+        let vs = self.voices;
+        let held = self.held;
+        let mode = design.mode;
+        let sounding = voices::count_of(vs, n, VoiceTest::Sounding);
+        if (design.max_voices as usize) < sounding {
+            return false;
+        }
+        if !mode_fits(mode, h, sounding) {
+            return false;
+        }
+        if !voices_fit(vs, n, self.next_handle, design.copies() as usize) {
+            return false;
+        }
+        if !handles_distinct(vs, n) {
+            return false;
+        }
+        held_distinct(held, h)
+    }
+}
+
+// Held notes with their count.
+pub struct Held {
+    pub notes: [Note; 256],
+    pub count: usize,
+}
+
+// The held notes without a note, packed at the front.
+fn held_without(held: [Note; 256], n: usize, note: u8) -> Held
+    ensures { λ r. ⌜ WithoutNote held n note r ⌝ }
+{
+    let end = least(n, 256);
+    let mut notes = held;
+    let mut w: usize = 0;
+    let mut i: usize = 0;
+    while i < end {
+        let x = notes[i];
+        if place(x) != note as usize {
+            notes[w] = x;
+            w += 1;
+        }
+        i += 1;
+    }
+    Held { notes, count: w }
+}
+
+// The note moves to the end of the held notes.
+fn held_with(held: [Note; 256], n: usize, note: u8) -> Held
+    ensures { λ r. ⌜ WithNote held n note r ⌝ }
+{
+    let rest = held_without(held, n, note);
+    let count = rest.count;
+    let mut notes = rest.notes;
+    if count < 256 {
+        notes[count] = Note(note);
+        return Held {
+            notes,
+            count: count + 1,
+        };
+    }
+    rest
+}
+
+// A voice that stands in no table.
+fn no_voice() -> Voice {
+    let made = EnvGen::new(0.0, 0.0, 0.0, 0.0, 0);
+    let env = made.env;
+    Voice {
+        handle: 0,
+        note: Note(0),
+        copies: [UnisonCopy::new(0, 1, 0.0); 8],
+        copy_count: 0,
+        built_hz: 0.0,
+        env,
+        gain: 0.0,
+        releasing: false,
+        sustained: false,
+    }
+}
+
+impl Instrument {
+    // A state with no voice and nothing held.
+    fn empty(design: InstrumentDesign, next_handle: u64, scale: f32) -> Instrument
+        ensures { λ s. ⌜ (counted s ≡ true) × (view s ≡ emptyModel design «next_handle» scale) ⌝ }
+    {
+        let voice = no_voice();
+        Instrument {
+            design,
+            voices: [voice; 64],
+            voice_count: 0,
+            next_handle,
+            sustain: false,
+            bend: scale,
+            brightness: scale,
+            vib_phase: 0.0,
+            flt_phase: 0.0,
+            trem_phase: 0.0,
+            trem: scale,
+            held: [Note(0); 256],
+            held_count: 0,
+            frames: 0,
+        }
+    }
+
+    pub fn new(design: InstrumentDesign) -> NewInstrument
+        ensures { λ r. ⌜ StartAs design r ⌝ }
+    {
+        let reply = design.accepted();
+        match reply {
+            DesignReply::Accepted => NewInstrument {
+                reply,
+                state: Instrument::empty(design, 1, 1.0),
+            },
+            DesignReply::Refused(_) => NewInstrument {
+                reply,
+                state: Instrument::empty(zero_design(), 0, 0.0),
+            },
+        }
+    }
+}
+
+fn zero_design() -> InstrumentDesign
+    ensures { λ d. ⌜ d ≡ zeroDesign ⌝ }
+{
+    InstrumentDesign {
+        sample_rate: 0,
+        max_voices: 0,
+        mode: PlayMode::Poly,
+        unison: 0,
+        unison_width: 0.0,
+        amp: Adsr {
+            a: 0.0,
+            d: 0.0,
+            s: 0.0,
+            r: 0.0,
+        },
+        glide: 0.0,
+        modulation: Modulation {
+            vibrato_rate: 0.0,
+            vibrato_cents: 0.0,
+            tremolo_rate: 0.0,
+            tremolo_depth: 0.0,
+            filter_rate: 0.0,
+            filter_octaves: 0.0,
+        },
+    }
+}
+
+// The very state given, with the number of the refusal.
+fn refused(state: Instrument, number: u8) -> Outcome
+    ensures { λ r. ⌜ r ≡ refusedAs state number ⌝ }
+{
+    Outcome {
+        reply: Reply::Refused(number),
+        state,
+    }
+}
+
+fn answered(reply: Reply, state: Instrument) -> Outcome
+    ensures { λ r. ⌜ r ≡ answeredAs reply state ⌝ }
+{
+    Outcome { reply, state }
+}
+
+impl Instrument {
+    // 1 or 5 where a call other than Mix meets a state that bars it, else 0.
+    fn barred(self) -> u8
+        ensures { λ n. ⌜ n ≡ barredBy self ⌝ }
+    {
+        if !self.well_formed() {
+            return 1;
+        }
+        if self.frames == 0 {
+            return 0;
+        }
+        5
+    }
+
+    // Another table, next handle, pedal and held notes.
+    fn placed(
+        mut self,
+        vs: [Voice; 64],
+        count: usize,
+        next: u64,
+        sustain: bool,
+        held: Held,
+    ) -> Instrument
+        ensures { λ r. ⌜ r ≡ placedAs self vs count next sustain held ⌝ }
+    {
+        let notes = held.notes;
+        self.voices = vs;
+        self.voice_count = count;
+        self.next_handle = next;
+        self.sustain = sustain;
+        self.held = notes;
+        self.held_count = held.count;
+        self
+    }
+
+    // The held notes as they are.
+    fn holding(self) -> Held
+        ensures { λ h. ⌜ h ≡ holdingOf self ⌝ }
+    {
+        let notes = self.held;
+        Held {
+            notes,
+            count: self.held_count,
+        }
+    }
+
+    // The same state with another table of as many voices.
+    fn with_table(self, vs: [Voice; 64]) -> Instrument
+        ensures { λ r. ⌜ r ≡ tabledAs self vs ⌝ }
+    {
+        self.placed(
+            vs,
+            self.voice_count,
+            self.next_handle,
+            self.sustain,
+            self.holding(),
+        )
+    }
+
+    // Sustain pedal: on its release every sustained voice is released.
+    pub fn set_sustain(self, down: bool) -> Outcome
+        ensures { λ r. ⌜ CallAs self (Call.pedal down) r ⌝ }
+    {
+        let barred = self.barred();
+        if barred != 0 {
+            return refused(self, barred);
+        }
+        let vs = self.voices;
+        let n = self.voice_count;
+        let held = self.holding();
+        if down {
+            return answered(
+                Reply::Done,
+                self.placed(vs, n, self.next_handle, true, held),
+            );
+        }
+        let ws = voices::change_all(vs, n, VoiceChange::Lift);
+        answered(
+            Reply::Done,
+            self.placed(ws, n, self.next_handle, false, held),
+        )
+    }
+
+    // Releases one voice by its handle.
+    pub fn release(self, handle: u64) -> Outcome
+        ensures { λ r. ⌜ CallAs self (Call.release handle) r ⌝ }
+    {
+        let barred = self.barred();
+        if barred != 0 {
+            return refused(self, barred);
+        }
+        let vs = self.voices;
+        let n = self.voice_count;
+        let k = voices::find_first(vs, n, VoiceTest::Handle(handle));
+        if n <= k {
+            return answered(Reply::Released(false), self);
+        }
+        let ws = voices::change_at(vs, n, k, VoiceChange::Release);
+        answered(Reply::Released(true), self.with_table(ws))
+    }
+
+    // Releases every voice and holds no note.
+    pub fn all_notes_off(self) -> Outcome
+        ensures { λ r. ⌜ CallAs self Call.allOff r ⌝ }
+    {
+        let barred = self.barred();
+        if barred != 0 {
+            return refused(self, barred);
+        }
+        let vs = self.voices;
+        let n = self.voice_count;
+        let notes = self.held;
+        let ws = voices::change_all(vs, n, VoiceChange::Release);
+        let held = Held { notes, count: 0 };
+        answered(
+            Reply::Done,
+            self.placed(ws, n, self.next_handle, self.sustain, held),
+        )
+    }
+}
+
+impl Instrument {
+    // Other copies, bend and brightness.
+    fn tuned(mut self, vs: [Voice; 64], bend: f32, brightness: f32) -> Instrument
+        ensures { λ r. ⌜ r ≡ tunedAs self vs bend brightness ⌝ }
+    {
+        self.voices = vs;
+        self.bend = bend;
+        self.brightness = brightness;
+        self
+    }
+
+    // Bends every voice, and any struck later, by the wheel's factor.
+    pub fn set_bend(self, factor: f32) -> Outcome
+        ensures { λ r. ⌜ CallAs self (Call.bend factor) r ⌝ }
+    {
+        let barred = self.barred();
+        if barred != 0 {
+            return refused(self, barred);
+        }
+        let vs = self.voices;
+        let change = VoiceChange::Copies(CopyChange::Bend(factor));
+        let ws = voices::change_all(vs, self.voice_count, change);
+        answered(Reply::Done, self.tuned(ws, factor, self.brightness))
+    }
+
+    // Sets the cutoff of every copy, and of any built later.
+    pub fn set_brightness(self, scale: f32) -> Outcome
+        ensures { λ r. ⌜ CallAs self (Call.brightness scale) r ⌝ }
+    {
+        let barred = self.barred();
+        if barred != 0 {
+            return refused(self, barred);
+        }
+        let vs = self.voices;
+        let least = float32::max(scale, 0.01);
+        let change = VoiceChange::Copies(CopyChange::Cut(least));
+        let ws = voices::change_all(vs, self.voice_count, change);
+        answered(Reply::Done, self.tuned(ws, self.bend, least))
+    }
+
+    // Whether a handle is in the table.
+    pub fn is_active(self, handle: u64) -> Answer
+        ensures { λ a. ⌜ answerOf a ≡ askedOf self (isActive (view self) handle) ⌝ }
+    {
+        if !self.well_formed() {
+            return Answer::Refused(1);
+        }
+        let vs = self.voices;
+        let n = self.voice_count;
+        let k = voices::find_first(vs, n, VoiceTest::Handle(handle));
+        Answer::Active(k < n)
+    }
+
+    // How many voices are in the table.
+    pub fn active_voices(self) -> Answer
+        ensures { λ a. ⌜ answerOf a ≡ askedOf self (activeVoices (view self)) ⌝ }
+    {
+        if !self.well_formed() {
+            return Answer::Refused(1);
+        }
+        Answer::Voices(self.voice_count)
+    }
+
+    // Some voice of a note that is not releasing.
+    pub fn voice_of(self, note: u8) -> Answer
+        ensures { λ a. ⌜ VoiceAs self note a ⌝ }
+    {
+        if !self.well_formed() {
+            return Answer::Refused(1);
+        }
+        let vs = self.voices;
+        let n = self.voice_count;
+        let k = voices::find_first(vs, n, VoiceTest::SoundsNote(note));
+        if n <= k {
+            return Answer::NoHandle;
+        }
+        let v = vs[k];
+        Answer::Handle(v.handle)
+    }
+
+    // Poly note-off: the newest voice of the note that is neither releasing nor sustained.
+    fn poly_note_off(self, note: u8) -> Outcome
+        ensures { λ r. ⌜ (barredBy self ≡ 0 → Gives (polyOff (view self) note) r) ⌝ }
+    {
+        let vs = self.voices;
+        let n = self.voice_count;
+        let k = voices::find_last(vs, n, VoiceTest::Plays(note));
+        if n <= k {
+            return answered(Reply::Off(false), self);
+        }
+        let ws = voices::change_at(vs, n, k, VoiceChange::Off(self.sustain));
+        answered(Reply::Off(true), self.with_table(ws))
+    }
+}
+
+impl Instrument {
+    // The table of a Mono note-off: the voice falls back to the newest note still held, or goes off where none is.
+    fn fall_back(self, rest: Held) -> [Voice; 64]
+        requires { ⌜ rest .count ≤ 256 ⌝ }
+        ensures { λ ws. ⌜ (barredBy self ≡ 0 → FallsBack self (heldFirst (rest .count) (rest .notes)) ws) ⌝ }
+    {
+        let vs = self.voices;
+        let n = self.voice_count;
+        let count = rest.count;
+        if count == 0 {
+            return voices::change_all(vs, n, VoiceChange::OffSounding(self.sustain));
+        }
+        let notes = rest.notes;
+        let previous = notes[count - 1];
+        let design = self.design;
+        let k = voices::find_first(vs, n, VoiceTest::Sounding);
+        voices::change_at(vs, n, k, VoiceChange::AimAt(previous.0, design.glide))
+    }
+
+    fn mono_note_off(self, note: u8) -> Outcome
+        ensures { λ r. ⌜ (barredBy self ≡ 0 → Gives (monoOff (view self) note) r) ⌝ }
+    {
+        let held = self.held;
+        let rest = held_without(held, self.held_count, note);
+        if rest.count == self.held_count {
+            return answered(Reply::Off(false), self);
+        }
+        let ws = self.fall_back(rest);
+        let n = self.voice_count;
+        answered(
+            Reply::Off(true),
+            self.placed(ws, n, self.next_handle, self.sustain, rest),
+        )
+    }
+
+    fn off(self, note: u8) -> Outcome
+        ensures { λ r. ⌜ (barredBy self ≡ 0 → Gives (noteOffOf (view self) note) r) ⌝ }
+    {
+        let design = self.design;
+        let mode = design.mode;
+        match mode {
+            PlayMode::Poly => self.poly_note_off(note),
+            PlayMode::Mono { legato: _ } => self.mono_note_off(note),
+        }
+    }
+
+    pub fn note_off(self, note: u8) -> Outcome
+        ensures { λ r. ⌜ CallAs self (Call.noteOff note) r ⌝ }
+    {
+        let barred = self.barred();
+        if barred != 0 {
+            return refused(self, barred);
+        }
+        self.off(note)
+    }
+}
+
+// A NaN is no velocity; others lie within 0 and 1.
+fn velocity_of(velocity: f32) -> f32
+    ensures { λ x. ⌜ x ≡ velocityOf velocity ⌝ }
+{
+    if float32::is_nan(velocity) {
+        return 0.0;
+    }
+    float32::clamp(velocity, 0.0, 1.0)
+}
+
+impl Instrument {
+    // A new voice with the next handle, for which room is made.
+    fn spawn_voice(self, held: Held, note: u8, velocity: f32) -> Outcome
+        requires { ⌜ (barredBy self ≡ 0) × (held .count ≤ 256) × (self .«next_handle» ≡ lastHandle → ⊥) ⌝ }
+        ensures { λ r. ⌜ Gives (startedNote (view self) (heldFirst (held .count) (held .notes)) note velocity) r ⌝ }
+    {
+        let next = self.next_handle;
+        let design = self.design;
+        let vs = self.voices;
+        let stolen = voices::steal::steal(vs, self.voice_count, design.max_voices as usize);
+        let count = stolen.count;
+        let table = stolen.voices;
+        let voice = voices::new_voice(design, self.bend, self.brightness, next, note, velocity);
+        let ws = voices::push(table, count, voice);
+        answered(
+            Reply::Started(next, stolen.killed, stolen.taken),
+            self.placed(ws, count + 1, next + 1, self.sustain, held),
+        )
+    }
+
+    // A new handle: silent where nothing was built, refused where none is left.
+    fn strike(self, held: Held, note: u8, velocity: f32, built: bool) -> Outcome
+        requires { ⌜ (barredBy self ≡ 0) × (held .count ≤ 256) ⌝ }
+        ensures { λ r. ⌜ StrikeAs self (heldFirst (held .count) (held .notes)) note velocity built r ⌝ }
+    {
+        let next = self.next_handle;
+        if next == 0xffff_ffff_ffff_ffff {
+            return refused(self, 8);
+        }
+        if built {
+            return self.spawn_voice(held, note, velocity);
+        }
+        let vs = self.voices;
+        let n = self.voice_count;
+        answered(
+            Reply::Silent(next),
+            self.placed(vs, n, next + 1, self.sustain, held),
+        )
+    }
+
+    // Mono: the voice that sounds takes the note, else a new one is struck.
+    fn mono_note_on(self, note: u8, velocity: f32, legato: bool, built: bool) -> Outcome
+        requires { ⌜ barredBy self ≡ 0 ⌝ }
+        ensures { λ r. ⌜ MonoAs self legato note velocity built r ⌝ }
+    {
+        let notes = self.held;
+        let held = held_with(notes, self.held_count, note);
+        let vs = self.voices;
+        let n = self.voice_count;
+        let k = voices::find_first(vs, n, VoiceTest::Sounding);
+        if n <= k {
+            return self.strike(held, note, velocity, built);
+        }
+        let v = vs[k];
+        let design = self.design;
+        let change = VoiceChange::Keep(note, design.glide, legato, velocity);
+        let ws = voices::change_at(vs, n, k, change);
+        answered(
+            Reply::Kept(v.handle),
+            self.placed(ws, n, self.next_handle, self.sustain, held),
+        )
+    }
+
+    // Starts a note, or goes on with the Mono voice; at velocity 0 it is a note-off.
+    pub fn note_on(self, note: u8, velocity: f32, built: bool) -> Outcome
+        ensures { λ r. ⌜ CallAs self (Call.noteOn note velocity built) r ⌝ }
+    {
+        let barred = self.barred();
+        if barred != 0 {
+            return refused(self, barred);
+        }
+        let level = velocity_of(velocity);
+        if level == 0.0 {
+            return self.off(note);
+        }
+        let design = self.design;
+        let mode = design.mode;
+        match mode {
+            PlayMode::Poly => self.strike(self.holding(), note, level, built),
+            PlayMode::Mono { legato } => self.mono_note_on(note, level, legato, built),
+        }
+    }
+}
