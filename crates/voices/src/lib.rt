@@ -143,7 +143,7 @@ fn glide_copies(
 }
 
 impl Voice {
-    pub fn released(mut self) -> Voice
+    fn released(mut self) -> Voice
         ensures { λ r. ⌜ seen r ≡ onSeen releasedVoice (seen self) ⌝ }
     {
         let env = self.env.gate_off();
@@ -153,7 +153,7 @@ impl Voice {
     }
 
     // Stolen for a new note.
-    pub fn killed(mut self) -> Voice
+    fn killed(mut self) -> Voice
         ensures { λ r. ⌜ seen r ≡ onSeen killedVoice (seen self) ⌝ }
     {
         let env = self.env.kill();
@@ -162,7 +162,7 @@ impl Voice {
         self
     }
 
-    pub fn with_sustained(mut self, sustained: bool) -> Voice
+    fn with_sustained(mut self, sustained: bool) -> Voice
         ensures { λ r. ⌜ seen r ≡ onSeen (withSustained sustained) (seen self) ⌝ }
     {
         self.sustained = sustained;
@@ -170,7 +170,7 @@ impl Voice {
     }
 
     // A note-off: sustained while the pedal is down, else released.
-    pub fn off(self, down: bool) -> Voice
+    fn off(self, down: bool) -> Voice
         ensures { λ r. ⌜ seen r ≡ onSeen (offVoice down) (seen self) ⌝ }
     {
         if down {
@@ -187,7 +187,7 @@ impl Voice {
     }
 
     // The pedal goes up: a sustained voice is released.
-    pub fn lifted(self) -> Voice
+    fn lifted(self) -> Voice
         ensures { λ r. ⌜ seen r ≡ onSeen liftedVoice (seen self) ⌝ }
     {
         if self.sustained {
@@ -197,7 +197,7 @@ impl Voice {
         }
     }
 
-    pub fn with_copies(mut self, change: CopyChange) -> Voice
+    fn with_copies(mut self, change: CopyChange) -> Voice
         ensures { λ r. ⌜ seen r ≡ onSeen (withCopies (copyChanged change)) (seen self) ⌝ }
     {
         let copies = self.copies;
@@ -207,7 +207,7 @@ impl Voice {
     }
 
     // Takes the note; the copies glide to its frequency.
-    pub fn aimed_at(self, note: u8, coeff: f32) -> Voice
+    fn aimed_at(self, note: u8, coeff: f32) -> Voice
         ensures { λ r. ⌜ seen r ≡ onSeen (aimedAt coeff note) (seen self) ⌝ }
     {
         let n = Note(note);
@@ -228,14 +228,14 @@ impl Voice {
     }
 
     // The one voice of a mono instrument goes on with another note.
-    pub fn kept(self, note: u8, coeff: f32, legato: bool, velocity: f32) -> Voice
+    fn kept(self, note: u8, coeff: f32, legato: bool, velocity: f32) -> Voice
         ensures { λ r. ⌜ seen r ≡ onSeen (keptVoice coeff legato note velocity) (seen self) ⌝ }
     {
         let v = self.aimed_at(note, coeff).with_sustained(false);
         if legato { v } else { v.struck_again(velocity) }
     }
 
-    pub fn changed(self, change: VoiceChange) -> Voice
+    fn changed(self, change: VoiceChange) -> Voice
         ensures { λ r. ⌜ seen r ≡ onSeen (voiceChanged change) (seen self) ⌝ }
     {
         match change {
@@ -274,7 +274,7 @@ impl Voice {
         !self.releasing
     }
 
-    pub fn passes(self, test: VoiceTest) -> bool
+    fn passes(self, test: VoiceTest) -> bool
         ensures { λ r. ⌜ r ≡ testOf test (shown self) ⌝ }
     {
         match test {
