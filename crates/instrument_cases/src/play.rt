@@ -6,6 +6,7 @@ use design::InstrumentDesign;
 use design::Modulation;
 use design::PlayMode;
 use instrument::Instrument;
+use instrument::Outcome;
 
 pub fn nan() -> f32 {
     float32::from_bits(0x7fc0_0000)
@@ -62,12 +63,16 @@ pub fn unison(n: u32, width: f32) -> Instrument {
     start(design(4, PlayMode::Poly, n, width))
 }
 
-pub fn on(s: Instrument, note: u8, velocity: f32, built: bool) -> Instrument {
-    let o = s.note_on(note, velocity, built);
+// Prints the reply and hands the state on.
+fn told(o: Outcome) -> Instrument {
     let reply = o.reply;
     let state = o.state;
     show::reply(reply);
     state
+}
+
+pub fn on(s: Instrument, note: u8, velocity: f32, built: bool) -> Instrument {
+    told(s.note_on(note, velocity, built))
 }
 
 // A built note at full velocity.
@@ -76,51 +81,27 @@ pub fn hit(s: Instrument, note: u8) -> Instrument {
 }
 
 pub fn off(s: Instrument, note: u8) -> Instrument {
-    let o = s.note_off(note);
-    let reply = o.reply;
-    let state = o.state;
-    show::reply(reply);
-    state
+    told(s.note_off(note))
 }
 
 pub fn pedal(s: Instrument, down: bool) -> Instrument {
-    let o = s.set_sustain(down);
-    let reply = o.reply;
-    let state = o.state;
-    show::reply(reply);
-    state
+    told(s.set_sustain(down))
 }
 
 pub fn bend(s: Instrument, factor: f32) -> Instrument {
-    let o = s.set_bend(factor);
-    let reply = o.reply;
-    let state = o.state;
-    show::reply(reply);
-    state
+    told(s.set_bend(factor))
 }
 
 pub fn bright(s: Instrument, scale: f32) -> Instrument {
-    let o = s.set_brightness(scale);
-    let reply = o.reply;
-    let state = o.state;
-    show::reply(reply);
-    state
+    told(s.set_brightness(scale))
 }
 
 pub fn release(s: Instrument, handle: u64) -> Instrument {
-    let o = s.release(handle);
-    let reply = o.reply;
-    let state = o.state;
-    show::reply(reply);
-    state
+    told(s.release(handle))
 }
 
 pub fn alloff(s: Instrument) -> Instrument {
-    let o = s.all_notes_off();
-    let reply = o.reply;
-    let state = o.state;
-    show::reply(reply);
-    state
+    told(s.all_notes_off())
 }
 
 pub fn active(s: Instrument, handle: u64) {
