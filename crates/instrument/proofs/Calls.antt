@@ -13,13 +13,15 @@ use Rattle.model.specs.Types as M
 use Rattle.model.specs.Changes.{answer, placed}
 use Rattle.model.specs.Formed.{wellFormed}
 use Rattle.model.specs.Step.{isMix, noBlock, blockOpen, blockMissing, framesOutside, lengthWrong, handleDue, handlesSpent, refusal, accepted, refusedWith, step}
-use Rattle.voices.specs.View.{Seen, seen, seenFirst, voicesOf, inRoom}
-use Rattle.voices.specs.Changes.{onSeen, noSeen}
-use Rattle.voices.specs.declared.Voice.{Voice}
-use Rattle.instrument.specs.View.{heldFirst, view, counted, formed}
+use Rattle.voice.specs.View.{Seen, seen}
+use Rattle.voices.specs.View.{seenFirst, voicesOf, inRoom}
+use Rattle.voice.specs.Changes.{onSeen, noSeen}
+use Rattle.voice.specs.declared.Voice.{Voice}
+use Rattle.formed.specs.Held.{heldFirst}
+use Rattle.instrument.specs.View.{view, counted, formed}
 use Rattle.instrument.specs.Calls.{replyOf, refusalOf, replyTo, CallAs, Gives, answeredAs, refusedAs, barredBy, placedAs}
 use Rattle.instrument.specs.declared.Instrument.{Instrument}
-use Rattle.instrument.specs.declared.Held.{Held}
+use Rattle.formed.specs.declared.Held.{Held}
 use Rattle.instrument.specs.declared.Outcome.{Outcome}
 use Rattle.instrument.specs.declared.Reply.{Reply}
 

@@ -16,9 +16,11 @@ use Rattle.model.specs.Types as M
 use Rattle.model.specs.Changes.{placed, tuned}
 use Rattle.model.specs.Voices.{releasedVoice, withCopies, changed, isPlace, placeOf, hasHandle}
 use Rattle.model.specs.Controls.{liftedVoice, pedalOf, releaseOf, allOffOf, bendOf, brightnessOf}
-use Rattle.voices.specs.View.{Seen, seenFirst, voicesOf, inRoom}
-use Rattle.voices.specs.Changes.{onSeen, noSeen, map-seen, changed-seen, room-map, room-set}
-use Rattle.voices.specs.declared.Voice.{Voice}
+use Rattle.voice.specs.View.{Seen}
+use Rattle.voices.specs.View.{seenFirst, voicesOf, inRoom}
+use Rattle.voice.specs.Changes.{onSeen, noSeen}
+use Rattle.voices.specs.Changes.{map-seen, changed-seen, room-map, room-set}
+use Rattle.voice.specs.declared.Voice.{Voice}
 use Rattle.instrument.specs.View.{view, counted}
 use Rattle.instrument.specs.Calls.{CallAs, answeredAs, placedAs, holdingOf, tabledAs, tunedAs, Gives}
 use Rattle.instrument.specs.declared.Instrument.{Instrument}

@@ -18,18 +18,23 @@ use Rattle.design.specs.Accepted.{isAccepted, copiesOf}
 use Rattle.model.specs.Types as M
 use Rattle.model.specs.Voices.{sounding, handles}
 use Rattle.model.specs.Formed.{max, framesFit, handleFits, copiesFit, stageFits, blockFits, modeFits, wellFormed}
-use Rattle.voices.specs.View.{Seen, seen, shown, seenFirst, voicesOf, inRoom}
-use Rattle.voices.specs.Changes.{noSeen}
-use Rattle.voices.specs.declared.Voice.{Voice}
+use Rattle.voice.specs.View.{Seen, seen, shown}
+use Rattle.voices.specs.View.{seenFirst, voicesOf, inRoom}
+use Rattle.voice.specs.Changes.{noSeen}
+use Rattle.voice.specs.declared.Voice.{Voice}
 use Rattle.instrument.specs.declared.Instrument.{Instrument}
-use Rattle.instrument.specs.View.{numberOfNote, heldFirst, view, counted, formed}
-use Rattle.instrument.specs.Check.{voiceFits, modeAgrees, tablesFit}
+use Rattle.formed.specs.Held.{numberOfNote, heldFirst}
+use Rattle.instrument.specs.View.{view, counted, formed}
+use Rattle.formed.specs.Check.{voiceFits, modeAgrees, tablesFit}
 
 abbrev pub tableOf : Instrument → List Seen
 tableOf s = seenFirst (s .«voice_count») (s .voices)
 
 abbrev pub soundingIn : Instrument → ℕ
 soundingIn s = count sounding (voicesOf (tableOf s))
+
+abbrev tablesOf : Instrument → Bool
+tablesOf s = tablesFit (s .design) (s .«next_handle») (s .voices) (s .«voice_count») (s .held) (s .«held_count»)
 
 pub record Parts (s : Instrument) : Type 0 where
   pub voices64 : s .«voice_count» ≤ 64
@@ -144,56 +149,21 @@ module _ (s : Instrument) (lv : length (s .voices) ≡ 64) (lh : length (s .held
   pub unbounded : (x y : ℕ) → (Parts s → x ≤ y) → y < x → false ≡ formed s
   unbounded x y f h = unformed (leb x y) (λ p. le-leb x y (f p)) (lt-leb x y h)
 
--- the ways out of `tables_formed`
-module _ (s : Instrument) (n : ℕ) (en : n ≡ soundingIn s) where
-  pub tables-1 : s .design .«max_voices» < n → false ≡ tablesFit s
-  unfolding tablesFit
-  tables-1 h = and-fails _ _ (ap (λ (k : ℕ). leb k (s .design .«max_voices»)) (sym en) ∙ lt-leb _ _ h)
-
-  module _ (a : n ≤ s .design .«max_voices») where
-    sounds-few : leb (soundingIn s) (s .design .«max_voices») ≡ true
-    sounds-few = ap (λ (k : ℕ). leb k (s .design .«max_voices»)) (sym en) ∙ le-leb _ _ a
-
-    module _ (x : Bool) (ex : x ≡ modeAgrees (s .design .mode) (s .«held_count») n) where
-      mode-now : modeAgrees (s .design .mode) (s .«held_count») (soundingIn s) ≡ x
-      mode-now = ap (modeAgrees (s .design .mode) (s .«held_count»)) (sym en) ∙ sym ex
-
-      pub tables-2 : x ≡ false → false ≡ tablesFit s
-      unfolding tablesFit
-      tables-2 e = and-then _ _ _ sounds-few (and-fails _ _ (mode-now ∙ e))
-
-      module _ (p : x ≡ true) (k : ℕ) (ek : k ≡ copiesOf (s .design)) (y : Bool) (ey : y ≡ all (voiceFits (s .«next_handle») k) (tableOf s)) where
-        fits-now : all (voiceFits (s .«next_handle») (copiesOf (s .design))) (tableOf s) ≡ y
-        fits-now = ap (λ (c : ℕ). all (voiceFits (s .«next_handle») c) (tableOf s)) (sym ek) ∙ sym ey
-
-        pub tables-3 : y ≡ false → false ≡ tablesFit s
-        unfolding tablesFit
-        tables-3 e = and-then _ _ _ sounds-few (and-then _ _ _ (mode-now ∙ p) (and-fails _ _ (fits-now ∙ e)))
-
-        module _ (q : y ≡ true) (z : Bool) (ez : z ≡ distinct (handles (voicesOf (tableOf s)))) where
-          pub tables-4 : z ≡ false → false ≡ tablesFit s
-          unfolding tablesFit
-          tables-4 e = and-then _ _ _ sounds-few (and-then _ _ _ (mode-now ∙ p) (and-then _ _ _ (fits-now ∙ q) (and-fails _ _ (sym ez ∙ e))))
-
-          pub tables-5 : (w : Bool) → z ≡ true → w ≡ distinct (heldFirst (s .«held_count») (s .held)) → w ≡ tablesFit s
-          unfolding tablesFit
-          tables-5 w e f = and-then _ _ _ sounds-few (and-then _ _ _ (mode-now ∙ p) (and-then _ _ _ (fits-now ∙ q) (and-then _ _ _ (sym ez ∙ e) f)))
-
 -- the tables, and then the whole
 module _ (s : Instrument) (lv : length (s .voices) ≡ 64) (lh : length (s .held) ≡ 256) where
-  tables-pass : Parts s → tablesFit s ≡ true
+  tables-pass : Parts s → tablesOf s ≡ true
   unfolding tablesFit
   tables-pass p = and-i (le-leb _ _ (p .sounds)) (and-i (p .mode) (and-i (p .fits) (and-i (p .once) (p .heldOnce))))
 
   pub tables-last : (x : Bool) → s .«voice_count» ≤ 64 → s .«held_count» ≤ 256 → isAccepted (s .design) ≡ true → s .«voice_count» ≤ 2 * s .design .«max_voices»
-      → 1 ≤ s .«next_handle» → blockFits (s .design) (s .frames) ≡ true → x ≡ tablesFit s → x ≡ formed s
+      → 1 ≤ s .«next_handle» → blockFits (s .design) (s .frames) ≡ true → x ≡ tablesOf s → x ≡ formed s
   unfolding tablesFit
-  tables-last x a b d e f g h = by (tablesFit s) refl
+  tables-last x a b d e f g h = by (tablesOf s) refl
     where
       vs : List M.Voice
       vs = voicesOf (tableOf s)
 
-      parts : tablesFit s ≡ true → Parts s
+      parts : tablesOf s ≡ true → Parts s
       parts t =
           let k = both (leb (count sounding vs) (s .design .«max_voices»)) _ t in
           let l = both (modeAgrees (s .design .mode) (s .«held_count») (count sounding vs)) _ (k .1) in
@@ -213,9 +183,9 @@ module _ (s : Instrument) (lv : length (s .voices) ≡ 64) (lh : length (s .held
             mode = l .0;
           }
 
-      by : (t : Bool) → tablesFit s ≡ t → x ≡ formed s
+      by : (t : Bool) → tablesOf s ≡ t → x ≡ formed s
       by true t = h ∙ t ∙ sym (formed-of s lv lh (parts t))
-      by false t = h ∙ t ∙ unformed s lv lh (tablesFit s) tables-pass t
+      by false t = h ∙ t ∙ unformed s lv lh (tablesOf s) tables-pass t
 
 -- a voice of the table is the view of the array's
 pub voice-at : (s : Instrument) (k : ℕ) (d : Voice) → s .«voice_count» ≤ length (s .voices) → k < s .«voice_count» → getD (voicesOf (tableOf s)) k M.noVoice ≡ shown (getD (s .voices) k d)

@@ -1,7 +1,4 @@
-pub mod Checks
 pub mod Sizes
-pub mod Flags
-pub mod Holding
 pub mod Parts
 pub mod Formed
 pub mod Calls

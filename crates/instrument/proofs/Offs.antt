@@ -14,16 +14,18 @@ use Rattle.model.specs.Types as M
 use Rattle.model.specs.Changes.{placed}
 use Rattle.model.specs.Voices.{changed, isPlace, sounding, firstSounding, aimedAt}
 use Rattle.model.specs.Notes.{offVoice, plays, newestOf, polyOff, heldWithout, notHeld, noneHeld, newestHeld, fallenBack, monoOff, noteOffIn, noteOffOf}
-use Rattle.voices.specs.View.{Seen, seenFirst, voicesOf, inRoom}
-use Rattle.voices.specs.Changes.{onSeen, noSeen, offSounding}
-use Rattle.voices.specs.declared.Voice.{Voice}
-use Rattle.instrument.specs.View.{numberOfNote, heldFirst, view}
+use Rattle.voice.specs.View.{Seen}
+use Rattle.voices.specs.View.{seenFirst, voicesOf, inRoom}
+use Rattle.voice.specs.Changes.{onSeen, noSeen, offSounding}
+use Rattle.voice.specs.declared.Voice.{Voice}
+use Rattle.formed.specs.Held.{numberOfNote, heldFirst}
+use Rattle.instrument.specs.View.{view}
 use Rattle.design.specs.declared.PlayMode.{PlayMode}
 use Rattle.design.specs.declared.PlayMode.the-variants.{Poly, Mono}
 use Rattle.instrument.specs.Calls.{CallAs, Gives, answeredAs, placedAs, holdingOf, tabledAs, FallsBack}
-use Rattle.instrument.specs.Held.{WithoutNote}
+use Rattle.formed.specs.Held.{WithoutNote}
 use Rattle.instrument.specs.declared.Instrument.{Instrument}
-use Rattle.instrument.specs.declared.Held.{Held}
+use Rattle.formed.specs.declared.Held.{Held}
 use Rattle.instrument.specs.declared.Outcome.{Outcome}
 use Rattle.instrument.specs.declared.Reply.the-variants.{Off}
 use Rattle.instrument.proofs.Calls.{Free, counts, plain-call, gives-same, gives-placed}

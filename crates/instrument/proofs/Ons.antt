@@ -25,16 +25,18 @@ use Rattle.model.specs.Changes.{placed}
 use Rattle.model.specs.Voices.{newVoice, sounding, changed, handleAt, isPlace, firstSounding}
 use Rattle.model.specs.Notes.{velocityOf, isOff, noteOffOf, killedHandle, takenHandle, afterTaking, startedNote, silentNote, newNote, heldWith, keptVoice, keptNote, goesOn, monoOn, noteOnIn, noteOnOf, newHandleIn, newHandleDue}
 use Rattle.model.specs.Step.{handlesSpent}
-use Rattle.voices.specs.View.{Seen, seen, shown, seenFirst, voicesOf, inRoom}
-use Rattle.voices.specs.Changes.{onSeen, noSeen}
+use Rattle.voice.specs.View.{Seen, seen, shown}
+use Rattle.voices.specs.View.{seenFirst, voicesOf, inRoom}
+use Rattle.voice.specs.Changes.{onSeen, noSeen}
 use Rattle.voices.specs.Steal.{Meets, StolenFrom}
-use Rattle.voices.specs.declared.Voice.{Voice}
+use Rattle.voice.specs.declared.Voice.{Voice}
 use Rattle.voices.specs.declared.steal.Stolen.{Stolen}
-use Rattle.instrument.specs.View.{heldFirst, view, formed}
+use Rattle.formed.specs.Held.{heldFirst}
+use Rattle.instrument.specs.View.{view, formed}
 use Rattle.instrument.specs.Calls.{CallAs, Gives, answeredAs, refusedAs, placedAs, holdingOf, lastHandle, StrikeAs, MonoAs}
-use Rattle.instrument.specs.Held.{WithNote}
+use Rattle.formed.specs.Held.{WithNote}
 use Rattle.instrument.specs.declared.Instrument.{Instrument}
-use Rattle.instrument.specs.declared.Held.{Held}
+use Rattle.formed.specs.declared.Held.{Held}
 use Rattle.instrument.specs.declared.Outcome.{Outcome}
 use Rattle.instrument.specs.declared.Reply.the-variants.{Started, Silent, Kept}
 use Rattle.instrument.proofs.Calls.{Free, counts, plain-call, gives-placed, refused-call, accepted-call, unrefused, spent}

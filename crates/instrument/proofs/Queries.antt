@@ -16,8 +16,9 @@ use Rattle.model.specs.Formed.{wellFormed}
 use Rattle.model.specs.Queries as Q
 use Rattle.model.specs.Queries.{isActive, activeVoices, soundsNote, SomeVoice, VoiceOf}
 use Rattle.model.specs.Voices.{handleAt, isPlace, placeOf, hasHandle}
-use Rattle.voices.specs.View.{shown, voicesOf}
-use Rattle.voices.specs.declared.Voice.{Voice}
+use Rattle.voice.specs.View.{shown}
+use Rattle.voices.specs.View.{voicesOf}
+use Rattle.voice.specs.declared.Voice.{Voice}
 use Rattle.instrument.specs.View.{view, counted, formed}
 use Rattle.instrument.specs.Asked.{answerOf, askedOf, VoiceAs}
 use Rattle.instrument.specs.declared.Instrument.{Instrument}

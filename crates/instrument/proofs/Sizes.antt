@@ -5,18 +5,8 @@ use lib.ListN.{length, length-map}
 use mir.Val.{Val}
 use denote.Laws.{Is}
 use denote.Struct.Declared.{row}
-use Rattle.voices.specs.declared.Voice.{Voice}
-use Rattle.voices.proofs.Voice as VT
-use Rattle.instrument.specs.declared.Held.{Held}
 use Rattle.instrument.specs.declared.Instrument.{Instrument}
-use Rattle.instrument.proofs.Held as HT
 use Rattle.instrument.proofs.Instrument as IT
-
-pub copies-long : (v : Voice) {vs : List Val} → Is (row VT.the-type) v vs → length (v .copies) ≡ 8
-copies-long v g = simp length-map at (g .1 .1 .1 .1 .0 .1 .0 .1)
-
-pub notes-long : (h : Held) {vs : List Val} → Is (row HT.the-type) h vs → length (h .notes) ≡ 256
-notes-long h g = simp length-map at (g .1 .1 .0 .1 .0 .1)
 
 pub voices-long : (s : Instrument) {vs : List Val} → Is (row IT.the-type) s vs → length (s .voices) ≡ 64
 voices-long s g = simp length-map at (g .1 .1 .1 .0 .1 .0 .1)

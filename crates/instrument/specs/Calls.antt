@@ -5,17 +5,17 @@ use mathlib.Core.Bool.{Bool, true, false, cond}
 use mathlib.Core.List.{List, []}
 use lib.Dec.{eqb}
 use lib.Ieee.{Float}
-use Rattle.voices.specs.declared.Voice.{Voice}
+use Rattle.voice.specs.declared.Voice.{Voice}
 use Rattle.voices.specs.View.{seenFirst, voicesOf, inRoom}
 use Rattle.model.specs.Notes.{fallenBack, newNote, goesOn, monoOn}
-use Rattle.instrument.specs.declared.Held.{Held}
+use Rattle.formed.specs.declared.Held.{Held}
 use Rattle.float32.specs.Numbers.{zero as +0}
 use Prim.Native.Nat.{ℕ}
 use Rattle.design.specs.declared.DesignReply.{DesignReply}
 use Rattle.design.specs.declared.InstrumentDesign.{InstrumentDesign}
 use Rattle.design.specs.Accepted.{designReply, isAccepted}
 use Rattle.model.specs.Types as model
-use Rattle.model.specs.Step.{refusal, step}
+use Rattle.model.specs.Step.{refusal, lentTo, step}
 use Rattle.model.specs.Start.{fresh, zeroState}
 use Rattle.instrument.specs.View.{view, counted, formed}
 use Rattle.instrument.specs.declared.Instrument.{Instrument}
@@ -43,12 +43,20 @@ refusalOf s c = cond (counted s) (refusal (view s) c) 1
 unfoldable pub replyTo : Instrument → model.Call → model.Reply
 replyTo s c = cond (counted s) (step (view s) c .reply) (model.Reply.refused 1)
 
-pub record CallAs (s : Instrument) (c : model.Call) (r : Outcome) : Type 0 where
-  pub reply : replyOf (r .reply) ≡ replyTo s c
+-- the list lent to be written, at exit: as it was on a refusal
+unfoldable pub lentOf : Instrument → model.Call → List Float
+lentOf s c = cond (counted s) (step (view s) c .lent) (lentTo c)
+
+-- a call c on s that replied `said` and gave the state t
+pub record StepAs (s : Instrument) (c : model.Call) (said : model.Reply) (t : Instrument) : Type 0 where
+  pub reply : said ≡ replyTo s c
   -- "The state .. comes back equal", with what stands behind its counts
-  pub refused : (refusalOf s c ≡ 0 → ⊥) → r .state ≡ s
-  pub inRoom : refusalOf s c ≡ 0 → counted (r .state) ≡ true
-  pub next : refusalOf s c ≡ 0 → view (r .state) ≡ step (view s) c .model
+  pub refused : (refusalOf s c ≡ 0 → ⊥) → t ≡ s
+  pub inRoom : refusalOf s c ≡ 0 → counted t ≡ true
+  pub next : refusalOf s c ≡ 0 → view t ≡ step (view s) c .model
+
+abbrev pub CallAs : Instrument → model.Call → Outcome → Type 0
+CallAs s c r = StepAs s c (replyOf (r .reply)) (r .state)
 
 -- a state with no voice and nothing held, whose scales are all `scale`
 unfoldable pub emptyModel : InstrumentDesign → ℕ → Float → model.Model

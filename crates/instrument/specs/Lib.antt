@@ -1,5 +1,3 @@
 pub mod View
-pub mod Check
-pub mod Held
 pub mod Calls
 pub mod Asked

@@ -1,21 +1,11 @@
 -- What a state stands for in the model: each array up to its count (document 01, "Well formed", last sentence).
 use mathlib.Core.Bool.{Bool, _&&_}
-use mathlib.Core.List.{List, map}
-use Prim.Native.Nat.{ℕ}
 use lib.Dec.{leb}
-use lib.ListN.{take}
-use Rattle.note.specs.declared.Note.{Note}
 use Rattle.model.specs.Types.{Model}
 use Rattle.model.specs.Formed.{wellFormed}
 use Rattle.voices.specs.View.{seenFirst, voicesOf, inRoom}
+use Rattle.formed.specs.Held.{heldFirst}
 use Rattle.instrument.specs.declared.Instrument.{Instrument}
-
-abbrev pub numberOfNote : Note → ℕ
-numberOfNote n = n .0
-
--- the held notes, up to their count
-abbrev pub heldFirst : ℕ → List Note → List ℕ
-heldFirst n held = map numberOfNote (take n held)
 
 unfoldable pub view : Instrument → Model
 view s = record {

@@ -1,39 +1,31 @@
 // The instrument (the Rust's instrument/mod.rs): the voice table and the calls on it.
 
 ghost use mathlib.Core.Path.{_≡_};
-ghost use mathlib.Core.List.{map};
-ghost use Prim.Native.Nat.{_<_, _≤_, min};
-ghost use mathlib.Core.Bool.{false};
-ghost use lib.ListN.{take, replicate};
-ghost use Rattle.lists.specs.All.{all};
-ghost use Rattle.lists.specs.Perms.{distinct};
+ghost use mathlib.Core.Bool.{true};
+ghost use Prim.Native.Nat.{_≤_};
 ghost use Rattle.design.specs.Accepted.{isAccepted};
+ghost use Rattle.model.specs.Types.{Call};
 ghost use Rattle.model.specs.Formed.{framesFit, blockFits};
-ghost use Rattle.model.specs.Voices.{handles};
-ghost use Rattle.voices.specs.View.{seen, seenFirst, voicesOf};
-ghost use Rattle.instrument.specs.View.{heldFirst, view, counted, formed};
 ghost use Rattle.model.specs.Start.{zeroDesign};
-ghost use Rattle.instrument.specs.Calls.{emptyModel, refusedAs, answeredAs, barredBy, placedAs, holdingOf, tabledAs, tunedAs, FallsBack, lastHandle, StrikeAs, MonoAs, CallAs, StartAs, Gives};
-ghost use Rattle.instrument.specs.Asked.{answerOf, askedOf, VoiceAs};
 ghost use Rattle.model.specs.Queries.{isActive, activeVoices};
 ghost use Rattle.model.specs.Notes.{velocityOf, polyOff, monoOff, noteOffOf, startedNote};
-ghost use Rattle.model.specs.Types.{Call};
-ghost use mathlib.Core.Bool.{true};
-ghost use Rattle.instrument.specs.Held.{WithoutNote, WithNote};
-ghost use Rattle.instrument.specs.Check.{stageAgrees, voiceFits, risesFrom, modeAgrees, tablesFit};
+ghost use Rattle.formed.specs.Held.{heldFirst};
+ghost use Rattle.instrument.specs.View.{view, counted, formed as formedState};
+ghost use Rattle.instrument.specs.Calls.{emptyModel, refusedAs, answeredAs, barredBy, placedAs, holdingOf, tabledAs, tunedAs, FallsBack, lastHandle, StrikeAs, MonoAs, CallAs, StartAs, Gives};
+ghost use Rattle.instrument.specs.Asked.{answerOf, askedOf, VoiceAs};
 use design::Adsr;
 use design::DesignReply;
 use design::InstrumentDesign;
 use design::Modulation;
 use design::PlayMode;
 use envelope::EnvGen;
-use envelope::Stage;
+use formed::Held;
 use note::Note;
 use stream::UnisonCopy;
-use voices::CopyChange;
-use voices::Voice;
-use voices::VoiceChange;
-use voices::VoiceTest;
+use voice::CopyChange;
+use voice::Voice;
+use voice::VoiceChange;
+use voice::VoiceTest;
 
 pub struct Instrument {
     pub design: InstrumentDesign,
@@ -94,131 +86,6 @@ pub struct NewInstrument {
     pub state: Instrument,
 }
 
-// The smaller of two: a pass never leaves its array.
-fn least(a: usize, b: usize) -> usize
-    ensures { λ r. ⌜ r ≡ min a b ⌝ }
-{
-    if a < b { a } else { b }
-}
-
-// Whether a stage goes with `releasing`, and is not Idle.
-fn stage_fits(stage: Stage, releasing: bool) -> bool
-    ensures { λ b. ⌜ b ≡ stageAgrees stage releasing ⌝ }
-{
-    match stage {
-        Stage::Idle => false,
-        Stage::Attack => !releasing,
-        Stage::Decay => !releasing,
-        Stage::Sustain => !releasing,
-        Stage::Release => releasing,
-    }
-}
-
-fn voice_fits(v: Voice, next: u64, copies: usize) -> bool
-    ensures { λ b. ⌜ b ≡ voiceFits next copies (seen v) ⌝ }
-{
-    if 8 < v.copy_count {
-        return false;
-    }
-    if v.handle < 1 {
-        return false;
-    }
-    if next <= v.handle {
-        return false;
-    }
-    if v.copy_count != copies {
-        return false;
-    }
-    let env = v.env;
-    let stage = env.stage;
-    stage_fits(stage, v.releasing)
-}
-
-// Whether each of the first n voices fits by itself.
-fn voices_fit(vs: [Voice; 64], n: usize, next: u64, copies: usize) -> bool
-    ensures { λ b. ⌜ b ≡ all (voiceFits next copies) (seenFirst n vs) ⌝ }
-{
-    let end = least(n, 64);
-    let mut i: usize = 0;
-    while i < end {
-        if !voice_fits(vs[i], next, copies) {
-            return false;
-        }
-        i += 1;
-    }
-    true
-}
-
-// Whether the handles rise from voice to voice, as they do where no state was made up: then no two are equal.
-fn handles_rise(vs: [Voice; 64], n: usize) -> bool
-    ensures { λ b. ⌜ b ≡ risesFrom 0 (handles (voicesOf (seenFirst n vs))) ⌝ }
-{
-    let end = least(n, 64);
-    let mut low: u64 = 0;
-    let mut i: usize = 0;
-    while i < end {
-        let v = vs[i];
-        if v.handle <= low {
-            return false;
-        }
-        low = v.handle;
-        i += 1;
-    }
-    true
-}
-
-// A note's place among 256 flags.
-fn place(note: Note) -> usize
-    ensures { λ r. ⌜ (r ≡ note .0) × (r < 256) ⌝ }
-{
-    let n = note.0;
-    n as usize
-}
-
-// A flag for each note, none set.
-fn no_flags() -> [bool; 256]
-    ensures { λ r. ⌜ r ≡ replicate 256 false ⌝ }
-{
-    [false; 256]
-}
-
-// Whether no note is held twice, by a flag for each note.
-fn held_distinct(held: [Note; 256], n: usize) -> bool
-    ensures { λ b. ⌜ b ≡ distinct (heldFirst n held) ⌝ }
-{
-    let end = least(n, 256);
-    let mut seen = no_flags();
-    let mut i: usize = 0;
-    while i < end {
-        let x = place(held[i]);
-        if seen[x] {
-            return false;
-        }
-        seen[x] = true;
-        i += 1;
-    }
-    true
-}
-
-// Whether no handle stands twice. Only a table whose handles do not rise is compared in full.
-fn handles_distinct(vs: [Voice; 64], n: usize) -> bool
-    ensures { λ b. ⌜ b ≡ distinct (handles (voicesOf (seenFirst n vs))) ⌝ }
-{
-    if handles_rise(vs, n) {
-        return true;
-    }
-    let end = least(n, 64);
-    let mut i: usize = 0;
-    while i < end {
-        let v = vs[i];
-        if 1 < voices::count_of(vs, n, VoiceTest::Handle(v.handle)) {
-            return false;
-        }
-        i += 1;
-    }
-    true
-}
-
 fn is_accepted(design: InstrumentDesign) -> bool
     ensures { λ b. ⌜ b ≡ isAccepted design ⌝ }
 {
@@ -252,20 +119,10 @@ fn block_fits(design: InstrumentDesign, frames: usize) -> bool
     frames_fit(design, frames)
 }
 
-// In Poly nothing is held; in Mono at most one voice is not releasing.
-fn mode_fits(mode: PlayMode, held: usize, sounding: usize) -> bool
-    ensures { λ b. ⌜ b ≡ modeAgrees mode held sounding ⌝ }
-{
-    match mode {
-        PlayMode::Poly => held == 0,
-        PlayMode::Mono { legato: _ } => sounding <= 1,
-    }
-}
-
 impl Instrument {
     // Check 1, the design, the counts and the handles.
     pub fn well_formed(self) -> bool
-        ensures { λ b. ⌜ b ≡ formed self ⌝ }
+        ensures { λ b. ⌜ b ≡ formedState self ⌝ }
     {
         let n = self.voice_count;
         let h = self.held_count;
@@ -288,76 +145,10 @@ impl Instrument {
         if !block_fits(design, self.frames) {
             return false;
         }
-        self.tables_formed()
-    }
-
-    // Check 1, the tables, where the rest has passed.
-    fn tables_formed(self) -> bool
-        ensures { λ b. ⌜ b ≡ tablesFit self ⌝ }
-    {
-        let n = self.voice_count;
-        let h = self.held_count;
-        let design = self.design;
         let vs = self.voices;
         let held = self.held;
-        let mode = design.mode;
-        let sounding = voices::count_of(vs, n, VoiceTest::Sounding);
-        if (design.max_voices as usize) < sounding {
-            return false;
-        }
-        if !mode_fits(mode, h, sounding) {
-            return false;
-        }
-        if !voices_fit(vs, n, self.next_handle, design.copies() as usize) {
-            return false;
-        }
-        if !handles_distinct(vs, n) {
-            return false;
-        }
-        held_distinct(held, h)
+        formed::tables_fit(design, self.next_handle, vs, n, held, h)
     }
-}
-
-// Held notes with their count.
-pub struct Held {
-    pub notes: [Note; 256],
-    pub count: usize,
-}
-
-// The held notes without a note, packed at the front.
-fn held_without(held: [Note; 256], n: usize, note: u8) -> Held
-    ensures { λ r. ⌜ WithoutNote held n note r ⌝ }
-{
-    let end = least(n, 256);
-    let mut notes = held;
-    let mut w: usize = 0;
-    let mut i: usize = 0;
-    while i < end {
-        let x = notes[i];
-        if place(x) != note as usize {
-            notes[w] = x;
-            w += 1;
-        }
-        i += 1;
-    }
-    Held { notes, count: w }
-}
-
-// The note moves to the end of the held notes.
-fn held_with(held: [Note; 256], n: usize, note: u8) -> Held
-    ensures { λ r. ⌜ WithNote held n note r ⌝ }
-{
-    let rest = held_without(held, n, note);
-    let count = rest.count;
-    let mut notes = rest.notes;
-    if count < 256 {
-        notes[count] = Note(note);
-        return Held {
-            notes,
-            count: count + 1,
-        };
-    }
-    rest
 }
 
 // A voice that stands in no table.
@@ -700,7 +491,7 @@ impl Instrument {
         ensures { λ r. ⌜ (barredBy self ≡ 0 → Gives (monoOff (view self) note) r) ⌝ }
     {
         let held = self.held;
-        let rest = held_without(held, self.held_count, note);
+        let rest = formed::held_without(held, self.held_count, note);
         if rest.count == self.held_count {
             return answered(Reply::Off(false), self);
         }
@@ -756,7 +547,7 @@ impl Instrument {
         let stolen = voices::steal::steal(vs, self.voice_count, design.max_voices as usize);
         let count = stolen.count;
         let table = stolen.voices;
-        let voice = voices::new_voice(design, self.bend, self.brightness, next, note, velocity);
+        let voice = voice::new_voice(design, self.bend, self.brightness, next, note, velocity);
         let ws = voices::push(table, count, voice);
         answered(
             Reply::Started(next, stolen.killed, stolen.taken),
@@ -790,7 +581,7 @@ impl Instrument {
         ensures { λ r. ⌜ MonoAs self legato note velocity built r ⌝ }
     {
         let notes = self.held;
-        let held = held_with(notes, self.held_count, note);
+        let held = formed::held_with(notes, self.held_count, note);
         let vs = self.voices;
         let n = self.voice_count;
         let k = voices::find_first(vs, n, VoiceTest::Sounding);

@@ -7,7 +7,7 @@ use crate::show;
 use design::PlayMode;
 use instrument::Instrument;
 use note::Note;
-use voices::Voice;
+use voice::Voice;
 
 fn bad(number: u64, s: Instrument) {
     show::case(number);

@@ -7,7 +7,7 @@ use envelope::EnvGen;
 use envelope::Stage;
 use instrument::Instrument;
 use note::Note;
-use voices::Voice;
+use voice::Voice;
 
 pub fn fresh(design: InstrumentDesign) -> Instrument {
     let new = Instrument::new(design);
@@ -27,7 +27,7 @@ pub fn mono(max: u32) -> Instrument {
 // A voice of note 60 that sounds.
 pub fn voice(s: Instrument, handle: u64) -> Voice {
     let design = s.design;
-    voices::new_voice(design, 1.0, 1.0, handle, 60, 1.0)
+    voice::new_voice(design, 1.0, 1.0, handle, 60, 1.0)
 }
 
 // A voice more in the table.

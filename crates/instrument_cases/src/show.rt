@@ -8,7 +8,7 @@ use libc::STDOUT_FILENO;
 use note::Note;
 use stream::Cutoff;
 use stream::UnisonCopy;
-use voices::Voice;
+use voice::Voice;
 
 fn put(text: &[u8]) {
     io::write_all(STDOUT_FILENO, text);

@@ -14,11 +14,13 @@ use Rattle.lists.specs.Places.{without, map-without}
 use Rattle.model.specs.Types as model
 use Rattle.model.specs.Voices.{killedVoice, sounding, anyVoice, quieter, changed, handleAt, quietestSounding, quietest}
 use Rattle.model.specs.Notes.{full, afterKill, killedHandle, crowded, afterTaking, takenHandle}
-use Rattle.voices.specs.declared.Voice.{Voice}
+use Rattle.voice.specs.declared.Voice.{Voice}
 use Rattle.voices.specs.declared.steal.Killed.{Killed}
 use Rattle.voices.specs.declared.steal.Taken.{Taken}
-use Rattle.voices.specs.View.{Seen, seenFirst, voicesOf, inRoom}
-use Rattle.voices.specs.Changes.{onSeen, noSeen, changed-seen, room-set}
+use Rattle.voice.specs.View.{Seen}
+use Rattle.voices.specs.View.{seenFirst, voicesOf, inRoom}
+use Rattle.voice.specs.Changes.{onSeen, noSeen}
+use Rattle.voices.specs.Changes.{changed-seen, room-set}
 use Rattle.voices.specs.Steal.{killedIn, killedFrom, takenIn, takenFrom, KilledFrom, TakenFrom, Meets, StolenFrom}
 use Rattle.voices.proofs.Table.{table, table-size, quieter-order}
 

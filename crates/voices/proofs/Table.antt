@@ -9,10 +9,11 @@ use Rattle.lists.specs.Least.{Ordered}
 use Rattle.lists.specs.Prefix.{take-more, shown-at}
 use Rattle.model.specs.Types as model
 use Rattle.model.specs.Voices.{quieter, copiesIn}
-use Rattle.voices.specs.declared.Voice.{Voice}
-use Rattle.voices.specs.View.{shown, Seen, seen, seenFirst, voicesOf}
-use Rattle.voices.specs.Changes.{noSeen}
-use Rattle.voices.proofs.Sizes.{pastEnd}
+use Rattle.voice.specs.declared.Voice.{Voice}
+use Rattle.voice.specs.View.{shown, Seen, seen}
+use Rattle.voices.specs.View.{seenFirst, voicesOf}
+use Rattle.voice.specs.Changes.{noSeen}
+use Rattle.voice.proofs.Sizes.{pastEnd}
 
 -- what a pass looks through
 abbrev pub table : ℕ → List Voice → List model.Voice

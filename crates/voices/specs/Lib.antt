@@ -1,4 +1,3 @@
 pub mod View
 pub mod Changes
-pub mod Glides
 pub mod Steal

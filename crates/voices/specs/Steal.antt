@@ -10,7 +10,7 @@ use Rattle.lists.specs.Places.{without}
 use Rattle.model.specs.Types as model
 use Rattle.model.specs.Voices.{killedVoice, sounding, changed, handleAt, quietestSounding, quietest}
 use Rattle.model.specs.Notes.{killedHandle, afterTaking, takenHandle}
-use Rattle.voices.specs.declared.Voice.{Voice}
+use Rattle.voice.specs.declared.Voice.{Voice}
 use Rattle.voices.specs.declared.steal.Killed.{Killed}
 use Rattle.voices.specs.declared.steal.Taken.{Taken}
 use Rattle.voices.specs.declared.steal.Stolen.{Stolen}

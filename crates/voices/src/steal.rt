@@ -4,14 +4,14 @@ ghost use mathlib.Core.Path.{_≡_};
 ghost use Rattle.model.specs.Voices.{handleAt};
 ghost use Rattle.voices.specs.View.{seenFirst, voicesOf};
 ghost use Rattle.voices.specs.Steal.{KilledFrom, TakenFrom, StolenFrom};
-use crate::Voice;
-use crate::VoiceChange;
-use crate::VoiceTest;
 use crate::change_at;
 use crate::count_of;
 use crate::quietest;
 use crate::remove_at;
 use crate::room;
+use voice::Voice;
+use voice::VoiceChange;
+use voice::VoiceTest;
 
 // A table and the handle of the voice killed, or 0.
 struct Killed {

@@ -6,10 +6,10 @@ use borrow.Author.Needs.{needs}
 use lib.ListN.{length, take}
 use Rattle.lists.specs.Pass.{Pass, pass-read, pass-start, pass-keep, maps-more}
 use Rattle.lists.specs.Prefix.{take-min}
-use Rattle.voices.specs.declared.Voice.{Voice}
-use Rattle.voices.specs.View.{seen}
-use Rattle.voices.specs.Changes.{onSeen, voiceChanged}
-use Rattle.voices.proofs.Sizes.{pastEnd}
+use Rattle.voice.specs.declared.Voice.{Voice}
+use Rattle.voice.specs.View.{seen}
+use Rattle.voice.specs.Changes.{onSeen, voiceChanged}
+use Rattle.voice.proofs.Sizes.{pastEnd}
 use Rattle.voices.proofs.change_all.Statement.{statement}
 use Rattle.voices.proofs.change_all.Tie as tie
 

@@ -5,8 +5,9 @@ use borrow.Author.Needs.{needs}
 use lib.ListN.{length, set, length-map, length-take}
 use lib.Seq.{set-out}
 use Rattle.lists.specs.Prefix.{shown-set}
-use Rattle.voices.specs.View.{seen, seenFirst}
-use Rattle.voices.specs.Changes.{onSeen, voiceChanged}
+use Rattle.voice.specs.View.{seen}
+use Rattle.voices.specs.View.{seenFirst}
+use Rattle.voice.specs.Changes.{onSeen, voiceChanged}
 use Rattle.voices.proofs.Table.{seen-at}
 use Rattle.voices.proofs.change_at.Statement.{statement}
 use Rattle.voices.proofs.change_at.Tie as tie

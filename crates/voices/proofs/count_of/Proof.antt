@@ -6,7 +6,7 @@ use lib.Seq.{take-all}
 use lib.ListN.{length, take, getD}
 use Rattle.lists.specs.Count.{oneIf, oneIf-le, count, count-more}
 use Rattle.model.specs.Types as model
-use Rattle.voices.specs.Changes.{testOf}
+use Rattle.voice.specs.Changes.{testOf}
 use Rattle.voices.proofs.Table.{table, table-size, table-at}
 use Rattle.voices.proofs.count_of.Statement.{statement}
 use Rattle.voices.proofs.count_of.Tie as tie

@@ -7,7 +7,7 @@ use borrow.Author.Needs.{needs}
 use lib.ListN.{drop-of-length-le, length, drop, getD}
 use Rattle.lists.specs.Places.{findAt, find-found, find-next}
 use Rattle.model.specs.Types as model
-use Rattle.voices.specs.Changes.{testOf}
+use Rattle.voice.specs.Changes.{testOf}
 use Rattle.voices.proofs.Table.{table, table-size, table-at}
 use Rattle.voices.proofs.find_first.Statement.{statement}
 use Rattle.voices.proofs.find_first.Tie as tie

@@ -8,7 +8,7 @@ use lib.ListN.{drop-of-length-le, length, drop, getD}
 use Rattle.lists.specs.Count.{count}
 use Rattle.lists.specs.Places.{last-none, last-found, count-left}
 use Rattle.model.specs.Types as model
-use Rattle.voices.specs.Changes.{testOf}
+use Rattle.voice.specs.Changes.{testOf}
 use Rattle.voices.proofs.Table.{table, table-size, table-at}
 use Rattle.voices.proofs.find_last.Statement.{statement}
 use Rattle.voices.proofs.find_last.Tie as tie

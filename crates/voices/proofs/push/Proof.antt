@@ -5,7 +5,7 @@ use native.Mathlib.Numerals.{add-one}
 use borrow.Author.Needs.{needs}
 use lib.ListN.{length}
 use lib.Seq.{take-suc-set}
-use Rattle.voices.specs.View.{seen}
+use Rattle.voice.specs.View.{seen}
 use Rattle.voices.proofs.push.Statement.{statement}
 use Rattle.voices.proofs.push.Tie as tie
 

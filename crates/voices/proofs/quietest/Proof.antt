@@ -8,11 +8,11 @@ use Rattle.float32.specs.Order.{below}
 use Rattle.lists.specs.Least.{lowest, lowest-more, lowest-le}
 use Rattle.model.specs.Types as model
 use Rattle.model.specs.Voices.{quieter}
-use Rattle.voices.specs.declared.Voice.{Voice}
-use Rattle.voices.specs.View.{shown}
-use Rattle.voices.specs.Changes.{testOf}
+use Rattle.voice.specs.declared.Voice.{Voice}
+use Rattle.voice.specs.View.{shown}
+use Rattle.voice.specs.Changes.{testOf}
 use Rattle.voices.proofs.Table.{table, table-size, table-at, quieter-order}
-use Rattle.voices.proofs.Sizes.{pastEnd}
+use Rattle.voice.proofs.Sizes.{pastEnd}
 use Rattle.voices.proofs.quietest.Statement.{statement}
 use Rattle.voices.proofs.quietest.Tie as tie
 

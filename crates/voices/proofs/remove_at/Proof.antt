@@ -6,9 +6,9 @@ use borrow.Author.Needs.{needs}
 use lib.ListN.{length, take, getD}
 use Rattle.lists.specs.Pass.{Pass, pass-read, pass-from, pass-keep}
 use Rattle.lists.specs.Places.{without, without-none, without-more, map-without}
-use Rattle.voices.specs.declared.Voice.{Voice}
-use Rattle.voices.specs.View.{seen}
-use Rattle.voices.proofs.Sizes.{pastEnd}
+use Rattle.voice.specs.declared.Voice.{Voice}
+use Rattle.voice.specs.View.{seen}
+use Rattle.voice.proofs.Sizes.{pastEnd}
 use Rattle.voices.proofs.remove_at.Statement.{statement}
 use Rattle.voices.proofs.remove_at.Tie as tie
 

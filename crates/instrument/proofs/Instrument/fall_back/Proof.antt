@@ -3,10 +3,11 @@ use Prim.Native.Nat.{_≤_}
 use native.Mathlib.Omega.{arith}
 use lib.ListN.{length}
 use Rattle.lists.specs.Prefix.{shown-length}
-use Rattle.instrument.specs.View.{numberOfNote, heldFirst}
+use Rattle.formed.specs.Held.{numberOfNote, heldFirst}
 use Rattle.instrument.proofs.Calls.{free}
 use Rattle.instrument.proofs.Offs.{falls-all, falls-one, newest-left}
-use Rattle.instrument.proofs.Sizes.{voices-long, notes-long}
+use Rattle.instrument.proofs.Sizes.{voices-long}
+use Rattle.formed.proofs.Sizes.{notes-long}
 use borrow.Author.Needs.{needs}
 use Rattle.instrument.proofs.Instrument.fall_back.Statement.{statement}
 use Rattle.instrument.proofs.Instrument.fall_back.Tie as tie

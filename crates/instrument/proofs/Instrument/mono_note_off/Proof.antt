@@ -4,7 +4,8 @@ use Rattle.instrument.specs.Calls.{answeredAs}
 use Rattle.instrument.specs.declared.Reply.the-variants.{Off}
 use Rattle.instrument.proofs.Calls.{free}
 use Rattle.instrument.proofs.Offs.{mono-none, mono-some}
-use Rattle.instrument.proofs.Sizes.{voices-long, held-long, notes-long}
+use Rattle.instrument.proofs.Sizes.{voices-long, held-long}
+use Rattle.formed.proofs.Sizes.{notes-long}
 use borrow.Author.Needs.{needs}
 use Rattle.instrument.proofs.Instrument.mono_note_off.Statement.{statement}
 use Rattle.instrument.proofs.Instrument.mono_note_off.Tie as tie
@@ -13,7 +14,7 @@ use Rattle.instrument.proofs.Instrument.mono_note_off.Lts as lts
 use Rattle.instrument.proofs.Instrument.fall_back.Reads as fall-back-reads
 use Rattle.instrument.proofs.Instrument.placed.Reads as placed-reads
 use Rattle.instrument.proofs.answered.Reads as answered-reads
-use Rattle.instrument.proofs.held_without.Reads as held-without-reads
+use Rattle.formed.proofs.held_without.Reads as held-without-reads
 
 -- src/lib.rt:682:13
 held-without-requires : tie.Need-held-without-requires

@@ -13,7 +13,7 @@ use Rattle.instrument.proofs.Instrument.mono_note_on.Lts as lts
 use Rattle.instrument.proofs.Instrument.placed.Reads as placed-reads
 use Rattle.instrument.proofs.Instrument.strike.Reads as strike-reads
 use Rattle.instrument.proofs.answered.Reads as answered-reads
-use Rattle.instrument.proofs.held_with.Reads as held-with-reads
+use Rattle.formed.proofs.held_with.Reads as held-with-reads
 use Rattle.voices.proofs.change_at.Reads as change-at-reads
 use Rattle.voices.proofs.find_first.Reads as find-first-reads
 

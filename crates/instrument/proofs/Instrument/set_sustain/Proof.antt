@@ -2,7 +2,7 @@ use mathlib.Core.Path.{refl, sym, ap, subst, _∙_}
 use mathlib.Core.Bool.{Bool, true, false}
 use Rattle.model.specs.Types as M
 use Rattle.instrument.specs.Calls.{CallAs, answeredAs, placedAs}
-use Rattle.instrument.specs.declared.Held.{Held}
+use Rattle.formed.specs.declared.Held.{Held}
 use Rattle.instrument.specs.declared.Reply.the-variants.{Done}
 use Rattle.instrument.proofs.Calls.{free, barred-call}
 use Rattle.instrument.proofs.Controls.{pedal-down-call, pedal-up-call}

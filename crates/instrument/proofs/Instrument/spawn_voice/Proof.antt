@@ -14,7 +14,7 @@ use Rattle.instrument.proofs.Instrument.spawn_voice.Reads as reads
 use Rattle.instrument.proofs.Instrument.spawn_voice.Lts as lts
 use Rattle.instrument.proofs.Instrument.placed.Reads as placed-reads
 use Rattle.instrument.proofs.answered.Reads as answered-reads
-use Rattle.voices.proofs.new_voice.Reads as new-voice-reads
+use Rattle.voice.proofs.new_voice.Reads as new-voice-reads
 use Rattle.voices.proofs.push.Reads as push-reads
 use Rattle.voices.proofs.steal.steal.Reads as steal-reads
 

@@ -8,7 +8,7 @@ use Rattle.instrument.proofs.Instrument.well_formed.Statement.{statemen
 use Rattle.instrument.proofs.Instrument.well_formed.Tie as tie
 use Rattle.instrument.proofs.Instrument.well_formed.Reads as reads
 use Rattle.instrument.proofs.Instrument.well_formed.Lts as lts
-use Rattle.instrument.proofs.Instrument.tables_formed.Reads as tables-formed-reads
+use Rattle.formed.proofs.tables_fit.Reads as tables-fit-reads
 use Rattle.instrument.proofs.block_fits.Reads as block-fits-reads
 use Rattle.instrument.proofs.is_accepted.Reads as is-accepted-reads
 
@@ -65,13 +65,13 @@ returns-6 c =
     unformed (s .args .self) (voices-long (s .args .self) (s .good .0)) (held-long (s .args .self) (s .good .0)) _ (λ p. p .block) (sym (c .before .block-fits .ensures) ∙ not-true _ (c .if6 .taken))
 
 -- src/lib.rt:244:9
-tables-formed-requires : tie.Need-tables-formed-requires
-tables-formed-requires c κs = search needs
+tables-fit-requires : tie.Need-tables-fit-requires
+tables-fit-requires c κs = search needs
 
 -- src/lib.rt:220:5
 returns-7 : tie.Need-returns-7
 returns-7 c =
-    let k = c .before in
+    let k = c .before .before .before in
     let h = k .before .before in
     let g = h .before .before in
     let f = g .before .before in
@@ -79,7 +79,7 @@ returns-7 c =
     let d = e .before in
     let s = d .before .before in
     tables-last (s .args .self) (voices-long (s .args .self) (s .good .0)) (held-long (s .args .self) (s .good .0)) _ (d .if1 .left) (e .if2 .left)
-    (sym (f .before .is-accepted .ensures) ∙ not-false _ (f .if3 .left)) (g .if4 .left) (h .if5 .left) (sym (k .before .block-fits .ensures) ∙ not-false _ (k .if6 .left)) (c .tables-formed .ensures)
+    (sym (f .before .is-accepted .ensures) ∙ not-false _ (f .if3 .left)) (g .if4 .left) (h .if5 .left) (sym (k .before .block-fits .ensures) ∙ not-false _ (k .if6 .left)) (c .tables-fit .ensures)
 
 pub well-formed-spec : {M : Type 1} → statement M
 well-formed-spec =
@@ -95,5 +95,5 @@ well-formed-spec =
     returns-5
     block-fits-requires
     returns-6
-    tables-formed-requires
+    tables-fit-requires
     returns-7)

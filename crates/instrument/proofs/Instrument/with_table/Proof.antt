@@ -1,6 +1,6 @@
 use mathlib.Core.Path.{_∙_, ap}
 use Rattle.instrument.specs.Calls.{placedAs}
-use Rattle.instrument.specs.declared.Held.{Held}
+use Rattle.formed.specs.declared.Held.{Held}
 use borrow.Author.Needs.{needs}
 use Rattle.instrument.proofs.Instrument.with_table.Statement.{statement}
 use Rattle.instrument.proofs.Instrument.with_table.Tie as tie

@@ -2,7 +2,7 @@ use mathlib.Core.Path.{_≡_, sym, ap}
 use native.Mathlib.Omega.{arith}
 use lib.ListN.{length, List·getD-eq-default}
 use Rattle.model.specs.Types as model
-use Rattle.voices.specs.View.{shown}
+use Rattle.voice.specs.View.{shown}
 use Rattle.voices.proofs.Table.{table, table-size, table-at}
 use borrow.Author.Needs.{needs}
 use Rattle.voices.proofs.steal.handle_at.Statement.{statement}

@@ -1,0 +1,84 @@
+-- What a glide over one part of the curve makes of the whole.
+use mathlib.Core.Path.{_≡_, refl, ap, sym, _∙_}
+use mathlib.Core.List.{List, [], _∷_, _++_, flatMap}
+use Prim.Native.Nat.{ℕ, zero, suc, _+_, _*_, _≤_, _<_, min}
+use native.Mathlib.Nat.{mul-zero, mul-suc, mul-add}
+use native.Mathlib.Omega.{arith}
+use lib.Ieee.{Float}
+use lib.ListN.{length, take, drop, getD, length-append}
+use Rattle.lists.specs.Parts.{part-size, part-front, flat-more}
+use Rattle.lists.specs.Prefix.{drop-more}
+use Rattle.stream.specs.declared.UnisonCopy.{UnisonCopy}
+use Rattle.stream.specs.Pitch.{glided, curve, stepped, GlidedOver}
+use Rattle.model.specs.Types as model
+use Rattle.model.specs.Voices.{copiesIn}
+use Rattle.model.specs.Plan.{curves}
+use Rattle.voice.specs.declared.Voice.{Voice}
+use Rattle.voice.specs.View.{shown}
+use Rattle.voice.proofs.Sizes.{pastEnd}
+use Rattle.voices.proofs.Table.{table, table-size, table-at}
+
+pub curve-length : (n : ℕ) (c : UnisonCopy) → length (curve n c) ≡ n
+unfolding curve
+curve-length zero c = refl
+curve-length (suc n) c = let h = curve-length n (stepped c) in omega arith
+
+-- the numbers of the curve up to and with a part
+pub wider : (at k frames : ℕ) (xs ys zs : List Float) → k ≡ frames → at + frames ≤ length xs → ys ≡ zs → length zs ≡ frames
+    → take (at + frames) (take at xs ++ (ys ++ drop k (drop at xs))) ≡ take at xs ++ zs
+wider at k frames xs ys zs e h f l = rw (e, f) (part-front at frames xs zs h l)
+
+-- one copy's part
+module _ (at k frames : ℕ) (xs : List Float) {ys : List Float} {u d : UnisonCopy} (e : k ≡ frames) (h : at + frames ≤ length xs) (g : GlidedOver u (take k (drop at xs)) ys d) where
+  size : length (take k (drop at xs)) ≡ frames
+  size = rw e (part-size at frames xs h)
+
+  pub copy-glides : d ≡ glided frames u
+  copy-glides = rw size at (g .next)
+
+  pub copy-writes : take (at + frames) (take at xs ++ (ys ++ drop k (drop at xs))) ≡ take at xs ++ curve frames u
+  copy-writes = wider at k frames xs ys (curve frames u) e h (rw size at (g .numbers)) (curve-length frames u)
+
+pub curves-length : (frames : ℕ) (cs : List UnisonCopy) → length (flatMap (curve frames) cs) ≡ frames * length cs
+unfolding flatMap
+curves-length frames [] = sym (mul-zero frames)
+curves-length frames (c ∷ cs) =
+    let h = curves-length frames cs in
+    let a = length-append (curve frames c) (flatMap (curve frames) cs) in
+    let l = curve-length frames c in
+    let m = mul-suc frames (length cs) in
+    omega (arith, a, h, l, m)
+
+-- what is left of the curve after the voice at i
+voice-left : (xs : List model.Voice) (i at frames l : ℕ) (d : model.Voice) → i < length xs → at + frames * copiesIn (drop i xs) ≡ l
+    → at + frames * length (getD xs i d .copies) + frames * copiesIn (drop (i + 1) xs) ≡ l
+voice-left xs i at frames l d h e =
+    let m = mul-add frames (length (getD xs i d .copies)) (copiesIn (drop (i + 1) xs)) in
+    let q : at + frames * (length (getD xs i d .copies) + copiesIn (drop (i + 1) xs)) ≡ l = rw (drop-more xs i d h) at e in
+    omega (arith, m)
+
+-- one voice's part: v is the voice that the pass reads at i
+module _ (n : ℕ) (vs : List Voice) (v : Voice) (i frames : ℕ) (len : length vs ≡ 64) (h : i < min n 64) (read : v ≡ getD vs i pastEnd) where
+  in-table : i < length (table n vs)
+  in-table = let s = table-size n vs len in omega arith
+
+  here : getD (table n vs) i model.noVoice ≡ shown v
+  here = table-at n vs i (omega arith) ∙ ap shown (sym read)
+
+  pub rows-left : (at l rows : ℕ) → rows ≡ length (shown v .copies) → at + frames * copiesIn (drop i (table n vs)) ≡ l
+      → at + frames * rows + frames * copiesIn (drop (i + 1) (table n vs)) ≡ l
+  rows-left at l rows r e =
+      let rows-here : length (getD (table n vs) i model.noVoice .copies) ≡ rows = ap (λ (w : model.Voice). length (w .copies)) here ∙ sym r in
+      rw rows-here at (voice-left (table n vs) i at frames l model.noVoice in-table e)
+
+  pub voice-writes : (at k rows : ℕ) (xs ys : List Float) → rows ≡ length (shown v .copies) → k ≡ frames * rows → at + frames * rows ≤ length xs
+      → ys ≡ flatMap (curve frames) (shown v .copies) → take at xs ≡ curves frames (take i (table n vs))
+      → take (at + frames * rows) (take at xs ++ (ys ++ drop k (drop at xs))) ≡ curves frames (take (i + 1) (table n vs))
+  unfolding curves
+  voice-writes at k rows xs ys r e l f w =
+      let size : length (flatMap (curve frames) (shown v .copies)) ≡ frames * rows = curves-length frames (shown v .copies) ∙ ap (_*_ frames) (sym r) in
+      let g : model.Voice → List Float = λ (w : model.Voice). flatMap (curve frames) (w .copies) in
+      wider at k (frames * rows) xs ys (flatMap (curve frames) (shown v .copies)) e l f size
+      ∙ ap (λ (z : List Float). z ++ flatMap (curve frames) (shown v .copies)) w
+      ∙ ap (λ (u : model.Voice). flatMap g (take i (table n vs)) ++ g u) (sym here)
+      ∙ sym (flat-more g (table n vs) i model.noVoice in-table)

@@ -1,0 +1,135 @@
+-- Laws for the loops of check 1.
+use mathlib.Core.Path.{_≡_, refl, ap, sym, _∙_}
+use mathlib.Core.Bool.{Bool, true, false, not, _&&_, Bool·beq}
+use mathlib.Core.List.{List, [], _∷_, _++_, map}
+use Prim.Native.Nat.{ℕ, _+_, _≤_, _<_, min}
+use native.Mathlib.Omega.{arith}
+use borrow.Author.Tests.{lt-ltb, le-ltb, lt-leb, le-leb, eq-eqb, ne-eqb}
+use lib.Dec.{leb, ltb, eqb}
+use lib.ListN.{length, take, drop, getD, length-map, length-take, List·getD-map, drop-of-length-le}
+use lib.Seq.{getD-take, length-take-le}
+use Rattle.lists.specs.Choose.{and-fails, and-then}
+use Rattle.lists.specs.Prefix.{drop-more, getD-any, take-min}
+use Rattle.model.specs.Formed.{handleFits, copiesFit, stageFits}
+use Rattle.model.specs.Voices.{handles}
+use Rattle.voice.specs.View.{Seen, seen, shown}
+use Rattle.voices.specs.View.{seenFirst, voicesOf}
+use Rattle.model.specs.Types as M
+use Rattle.envelope.specs.declared.Stage.{Stage}
+use Rattle.envelope.specs.declared.Stage.the-variants.{Idle, Attack, Decay, Sustain, Release}
+use Rattle.voice.specs.declared.Voice.{Voice}
+use Rattle.formed.specs.Check.{stageAgrees, voiceFits, risesFrom}
+
+-- the ways out of `voice_fits`
+module _ (v : Voice) (next copies : ℕ) (size : length (v .copies) ≡ 8) where
+  pub fits-1 : 8 < v .«copy_count» → false ≡ voiceFits next copies (seen v)
+  unfolding voiceFits seen
+  fits-1 h = and-fails _ _ (lt-leb (v .«copy_count») 8 h)
+
+  module _ (a : v .«copy_count» ≤ 8) where
+    copies-shown : length (shown v .copies) ≡ v .«copy_count»
+    unfolding shown
+    copies-shown = length-take-le (v .«copy_count») (v .copies) (omega arith)
+
+    room : leb (v .«copy_count») 8 ≡ true
+    room = le-leb (v .«copy_count») 8 a
+
+    pub fits-2 : v .handle < 1 → false ≡ voiceFits next copies (seen v)
+    unfolding voiceFits seen shown
+    fits-2 h = and-then _ _ _ room (and-fails _ _ (sym (and-fails _ _ (lt-leb 1 (v .handle) h))))
+
+    module _ (b : 1 ≤ v .handle) where
+      pub fits-3 : next ≤ v .handle → false ≡ voiceFits next copies (seen v)
+      unfolding voiceFits seen shown
+      fits-3 h = and-then _ _ _ room (and-fails _ _ (sym (and-then _ _ _ (le-leb 1 (v .handle) b) (sym (le-ltb (v .handle) next h)))))
+
+      module _ (c : v .handle < next) where
+        named : (leb 1 (v .handle) && ltb (v .handle) next) ≡ true
+        named = sym (and-then _ _ _ (le-leb 1 (v .handle) b) (sym (lt-ltb (v .handle) next c)))
+
+        pub fits-4 : (v .«copy_count» ≡ copies → ⊥) → false ≡ voiceFits next copies (seen v)
+        unfolding voiceFits seen shown
+        fits-4 h = and-then _ _ _ room (and-then _ _ _ named (and-fails _ _ (ne-eqb _ copies (λ e. h (sym copies-shown ∙ e)))))
+
+        pub fits-5 : (x : Bool) → v .«copy_count» ≡ copies → x ≡ stageAgrees (v .env .stage) (v .releasing) → x ≡ voiceFits next copies (seen v)
+        unfolding voiceFits seen shown stageAgrees
+        fits-5 x h e = and-then _ _ _ room (and-then _ _ _ named (and-then _ _ _ (eq-eqb _ copies (copies-shown ∙ h)) e))
+
+-- the handles of the first n voices
+abbrev pub handlesFirst : ℕ → List Voice → List ℕ
+handlesFirst n vs = handles (voicesOf (seenFirst n vs))
+
+module _ (vs : List Voice) (n : ℕ) (h : n ≤ length vs) where
+  pub handles-long : length (handlesFirst n vs) ≡ n
+  handles-long = simp (length-map, length-take) (omega arith)
+
+  pub handle-at : (i : ℕ) (d : Voice) → i < n → getD (handlesFirst n vs) i 0 ≡ getD vs i d .handle
+  unfolding seen shown
+  handle-at i d k =
+      getD-any (handlesFirst n vs) i 0 (d .handle) (let l = handles-long in omega arith)
+      ∙ List·getD-map (λ (v : M.Voice). v .handle) (voicesOf (seenFirst n vs)) i (seen d .voice)
+      ∙ ap (λ (v : M.Voice). v .handle) (List·getD-map (λ (x : Seen). x .voice) (seenFirst n vs) i (seen d))
+      ∙ ap (λ (x : Seen). x .voice .handle) (List·getD-map seen (take n vs) i d)
+      ∙ ap (λ (v : Voice). v .handle) (getD-take n vs i d k)
+
+  -- what is left of a rise
+  module _ (i low : ℕ) (d : Voice) (k : i < n) where
+    left : risesFrom low (drop i (handlesFirst n vs)) ≡ (ltb low (getD vs i d .handle) && risesFrom (getD vs i d .handle) (drop (i + 1) (handlesFirst n vs)))
+    unfolding risesFrom
+    left = let l = handles-long in rw (drop-more (handlesFirst n vs) i 0 (omega arith), handle-at i d k)
+
+    pub rise-next : low < getD vs i d .handle → risesFrom low (drop i (handlesFirst n vs)) ≡ risesFrom (getD vs i d .handle) (drop (i + 1) (handlesFirst n vs))
+    rise-next l = left ∙ sym (and-then _ _ _ (lt-ltb low _ l) refl)
+
+    pub rise-fails : getD vs i d .handle ≤ low → risesFrom low (drop i (handlesFirst n vs)) ≡ false
+    rise-fails l = left ∙ sym (and-fails _ _ (le-ltb low _ l))
+
+  pub rise-end : (low : ℕ) → risesFrom low (drop n (handlesFirst n vs)) ≡ true
+  unfolding risesFrom
+  rise-end low = let l = handles-long in ap (risesFrom low) (drop-of-length-le (handlesFirst n vs) {i = n} (omega arith))
+
+-- a pass to the smaller of the count and the array's length sees what a pass to the count would
+pub seen-least : (n : ℕ) (vs : List Voice) → length vs ≡ 64 → (e : ℕ) → e ≡ min n 64 → seenFirst e vs ≡ seenFirst n vs
+seen-least n vs l e q = ap (map seen) (ap (λ (k : ℕ). take k vs) q ∙ take-min n 64 vs l)
+
+pub handles-least : (n : ℕ) (vs : List Voice) → length vs ≡ 64 → (e : ℕ) → e ≡ min n 64 → handlesFirst e vs ≡ handlesFirst n vs
+handles-least n vs l e q = ap (λ (x : List Seen). handles (voicesOf x)) (seen-least n vs l e q)
+
+-- the stages one by one
+pub agrees : (st : Stage) (x b : Bool) → x ≡ stageAgrees st b → (t : Stage) → t ≡ st → x ≡ stageAgrees t b
+agrees st x b e t h = e ∙ ap (λ (s : Stage). stageAgrees s b) (sym h)
+
+pub agrees-idle : (b : Bool) → false ≡ stageAgrees Idle b
+unfolding stageAgrees
+agrees-idle true = refl
+agrees-idle false = refl
+
+pub agrees-attack : (b : Bool) → not b ≡ stageAgrees Attack b
+unfolding stageAgrees
+agrees-attack true = refl
+agrees-attack false = refl
+
+pub agrees-decay : (b : Bool) → not b ≡ stageAgrees Decay b
+unfolding stageAgrees
+agrees-decay true = refl
+agrees-decay false = refl
+
+pub agrees-sustain : (b : Bool) → not b ≡ stageAgrees Sustain b
+unfolding stageAgrees
+agrees-sustain true = refl
+agrees-sustain false = refl
+
+pub agrees-release : (b : Bool) → b ≡ stageAgrees Release b
+unfolding stageAgrees
+agrees-release true = refl
+agrees-release false = refl
+
+abbrev pub noSeen : Seen
+noSeen = record { voice = M.noVoice; count = 0 }
+
+-- a handle of the table, with the table read to its count
+pub handle-of : (vs : List Voice) (n e i : ℕ) (d : Voice) → length vs ≡ 64 → e ≡ min n 64 → i < e → getD (handlesFirst n vs) i 0 ≡ getD vs i d .handle
+handle-of vs n e i d l q k = ap (λ (x : List ℕ). getD x i 0) (sym (handles-least n vs l e q)) ∙ handle-at vs e (omega arith) i d k
+
+pub handles-most : (vs : List Voice) (n e : ℕ) → length vs ≡ 64 → e ≡ min n 64 → length (handlesFirst n vs) ≡ e
+handles-most vs n e l q = ap length (sym (handles-least n vs l e q)) ∙ handles-long vs e (omega arith)

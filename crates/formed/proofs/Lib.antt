@@ -1,0 +1,6 @@
+pub mod Checks
+pub mod Sizes
+pub mod Flags
+pub mod Holding
+pub mod Handles
+pub mod Tables

@@ -1,0 +1,225 @@
+// Check 1 on the tables of an instrument, and the held notes of Mono.
+
+ghost use mathlib.Core.Path.{_≡_};
+ghost use mathlib.Core.Bool.{false};
+ghost use Prim.Native.Nat.{_<_, min};
+ghost use lib.ListN.{replicate};
+ghost use Rattle.lists.specs.All.{all};
+ghost use Rattle.lists.specs.Perms.{distinct};
+ghost use Rattle.model.specs.Voices.{handles};
+ghost use Rattle.voice.specs.View.{seen};
+ghost use Rattle.voices.specs.View.{seenFirst, voicesOf};
+ghost use Rattle.formed.specs.Held.{heldFirst, WithoutNote, WithNote};
+ghost use Rattle.formed.specs.Check.{stageAgrees, voiceFits, risesFrom, modeAgrees, tablesFit};
+use design::InstrumentDesign;
+use design::PlayMode;
+use envelope::Stage;
+use note::Note;
+use voice::Voice;
+use voice::VoiceTest;
+
+// The smaller of two: a pass never leaves its array.
+fn least(a: usize, b: usize) -> usize
+    ensures { λ r. ⌜ r ≡ min a b ⌝ }
+{
+    if a < b { a } else { b }
+}
+
+// Whether a stage goes with `releasing`, and is not Idle.
+fn stage_fits(stage: Stage, releasing: bool) -> bool
+    ensures { λ b. ⌜ b ≡ stageAgrees stage releasing ⌝ }
+{
+    match stage {
+        Stage::Idle => false,
+        Stage::Attack => !releasing,
+        Stage::Decay => !releasing,
+        Stage::Sustain => !releasing,
+        Stage::Release => releasing,
+    }
+}
+
+fn voice_fits(v: Voice, next: u64, copies: usize) -> bool
+    ensures { λ b. ⌜ b ≡ voiceFits next copies (seen v) ⌝ }
+{
+    if 8 < v.copy_count {
+        return false;
+    }
+    if v.handle < 1 {
+        return false;
+    }
+    if next <= v.handle {
+        return false;
+    }
+    if v.copy_count != copies {
+        return false;
+    }
+    let env = v.env;
+    let stage = env.stage;
+    stage_fits(stage, v.releasing)
+}
+
+// Whether each of the first n voices fits by itself.
+fn voices_fit(vs: [Voice; 64], n: usize, next: u64, copies: usize) -> bool
+    ensures { λ b. ⌜ b ≡ all (voiceFits next copies) (seenFirst n vs) ⌝ }
+{
+    let end = least(n, 64);
+    let mut i: usize = 0;
+    while i < end {
+        if !voice_fits(vs[i], next, copies) {
+            return false;
+        }
+        i += 1;
+    }
+    true
+}
+
+// Whether the handles rise from voice to voice, as they do where no state was made up: then no two are equal.
+fn handles_rise(vs: [Voice; 64], n: usize) -> bool
+    ensures { λ b. ⌜ b ≡ risesFrom 0 (handles (voicesOf (seenFirst n vs))) ⌝ }
+{
+    let end = least(n, 64);
+    let mut low: u64 = 0;
+    let mut i: usize = 0;
+    while i < end {
+        let v = vs[i];
+        if v.handle <= low {
+            return false;
+        }
+        low = v.handle;
+        i += 1;
+    }
+    true
+}
+
+// A note's place among 256 flags.
+fn place(note: Note) -> usize
+    ensures { λ r. ⌜ (r ≡ note .0) × (r < 256) ⌝ }
+{
+    let n = note.0;
+    n as usize
+}
+
+// A flag for each note, none set.
+fn no_flags() -> [bool; 256]
+    ensures { λ r. ⌜ r ≡ replicate 256 false ⌝ }
+{
+    [false; 256]
+}
+
+// Whether no note is held twice, by a flag for each note.
+fn held_distinct(held: [Note; 256], n: usize) -> bool
+    ensures { λ b. ⌜ b ≡ distinct (heldFirst n held) ⌝ }
+{
+    let end = least(n, 256);
+    let mut seen = no_flags();
+    let mut i: usize = 0;
+    while i < end {
+        let x = place(held[i]);
+        if seen[x] {
+            return false;
+        }
+        seen[x] = true;
+        i += 1;
+    }
+    true
+}
+
+// Whether no handle stands twice. Only a table whose handles do not rise is compared in full.
+fn handles_distinct(vs: [Voice; 64], n: usize) -> bool
+    ensures { λ b. ⌜ b ≡ distinct (handles (voicesOf (seenFirst n vs))) ⌝ }
+{
+    if handles_rise(vs, n) {
+        return true;
+    }
+    let end = least(n, 64);
+    let mut i: usize = 0;
+    while i < end {
+        let v = vs[i];
+        if 1 < voices::count_of(vs, n, VoiceTest::Handle(v.handle)) {
+            return false;
+        }
+        i += 1;
+    }
+    true
+}
+
+// In Poly nothing is held; in Mono at most one voice is not releasing.
+fn mode_fits(mode: PlayMode, held: usize, sounding: usize) -> bool
+    ensures { λ b. ⌜ b ≡ modeAgrees mode held sounding ⌝ }
+{
+    match mode {
+        PlayMode::Poly => held == 0,
+        PlayMode::Mono { legato: _ } => sounding <= 1,
+    }
+}
+
+// Check 1, the tables, where the rest has passed: at most max voices are not releasing, the mode's rule, each voice by itself, no handle and
+// no held note twice.
+pub fn tables_fit(
+    design: InstrumentDesign,
+    next: u64,
+    vs: [Voice; 64],
+    n: usize,
+    held: [Note; 256],
+    h: usize,
+) -> bool
+    ensures { λ b. ⌜ b ≡ tablesFit design next vs n held h ⌝ }
+{
+    let mode = design.mode;
+    let sounding = voices::count_of(vs, n, VoiceTest::Sounding);
+    if (design.max_voices as usize) < sounding {
+        return false;
+    }
+    if !mode_fits(mode, h, sounding) {
+        return false;
+    }
+    if !voices_fit(vs, n, next, design.copies() as usize) {
+        return false;
+    }
+    if !handles_distinct(vs, n) {
+        return false;
+    }
+    held_distinct(held, h)
+}
+
+// Held notes with their count.
+pub struct Held {
+    pub notes: [Note; 256],
+    pub count: usize,
+}
+
+// The held notes without a note, packed at the front.
+pub fn held_without(held: [Note; 256], n: usize, note: u8) -> Held
+    ensures { λ r. ⌜ WithoutNote held n note r ⌝ }
+{
+    let end = least(n, 256);
+    let mut notes = held;
+    let mut w: usize = 0;
+    let mut i: usize = 0;
+    while i < end {
+        let x = notes[i];
+        if place(x) != note as usize {
+            notes[w] = x;
+            w += 1;
+        }
+        i += 1;
+    }
+    Held { notes, count: w }
+}
+
+// The note moves to the end of the held notes.
+pub fn held_with(held: [Note; 256], n: usize, note: u8) -> Held
+    ensures { λ r. ⌜ WithNote held n note r ⌝ }
+{
+    let rest = held_without(held, n, note);
+    let count = rest.count;
+    let mut notes = rest.notes;
+    if count < 256 {
+        notes[count] = Note(note);
+        return Held {
+            notes,
+            count: count + 1,
+        };
+    }
+    rest
+}
