@@ -1,0 +1,53 @@
+use Prim.Native.Nat.{_-_}
+use native.Mathlib.Omega.{arith}
+use borrow.Author.Needs.{needs}
+use mathlib.Core.Path.{refl}
+use Rattle.levels.specs.Runs.{Within, always, never, Sloped}
+use Rattle.levels.proofs.Frames.{within-start, within-more}
+use Rattle.levels.proofs.Slopes.{slope-start, slope-more}
+use Rattle.levels.proofs.hold.Statement.{statement}
+use Rattle.levels.proofs.hold.Tie as tie
+
+abbrev Inv-loop : tie.InvT-loop
+Inv-loop start value gain trem from m buf₀ loud x₀ f₀ buf x f = Within from m buf f × Sloped (always value) never start gain trem from buf₀ buf x f
+
+abbrev μ-loop : tie.MeasureT-loop
+μ-loop start value gain trem from m buf₀ loud x₀ f₀ buf x f = m - f
+
+loop-holds : tie.Need-loop-holds Inv-loop μ-loop
+loop-holds c = (within-start _ _ _ (c .pre .0) (c .pre .2), slope-start _ _ _ _ _ _ _)
+
+mul-buf : tie.Need-mul-buf Inv-loop μ-loop
+mul-buf c = omega arith
+
+element-write-buf : tie.Need-element-write-buf Inv-loop μ-loop
+element-write-buf c = search needs
+
+add-f : tie.Need-add-f Inv-loop μ-loop
+add-f c = omega arith
+
+loop-less : tie.Need-loop-less Inv-loop μ-loop
+loop-less c = omega arith
+
+loop-again : tie.Need-loop-again Inv-loop μ-loop
+loop-again c =
+    let b = c .before in
+    let i = b .loop .inv in
+    (within-more _ _ _ _ _ (omega arith) (i .0), slope-more _ _ _ _ _ _ _ _ _ _ (i .0 .low) (omega arith) refl (i .1))
+
+returns : tie.Need-returns Inv-loop μ-loop
+returns c = c .before .loop .inv
+
+pub hold-spec : {M : Type 1} → statement M
+hold-spec =
+    tie.close
+    (tie.spec
+    Inv-loop
+    μ-loop
+    loop-holds
+    mul-buf
+    element-write-buf
+    add-f
+    loop-less
+    loop-again
+    returns)
