@@ -1,0 +1,70 @@
+use mathlib.Core.Path.{refl}
+use Rattle.same.proofs.Joined.{_&_, means}
+use borrow.Author.Needs.{needs}
+use Rattle.same.proofs.env_same.Statement.{statement}
+use Rattle.same.proofs.env_same.Tie as tie
+use Rattle.same.proofs.env_same.Reads as reads
+use Rattle.same.proofs.env_same.Lts as lts
+use Rattle.same.proofs.float_same.Reads as float-same-reads
+use Rattle.same.proofs.stage_same.Reads as stage-same-reads
+
+-- src/lib.rt:60:5
+float-same-requires : tie.Need-float-same-requires
+float-same-requires c κs = search needs
+
+-- src/lib.rt:61:11
+float-same-requires-2 : tie.Need-float-same-requires-2
+float-same-requires-2 c κs = search needs
+
+-- src/lib.rt:62:11
+float-same-requires-3 : tie.Need-float-same-requires-3
+float-same-requires-3 c κs = search needs
+
+-- src/lib.rt:63:11
+float-same-requires-4 : tie.Need-float-same-requires-4
+float-same-requires-4 c κs = search needs
+
+-- src/lib.rt:64:11
+float-same-requires-5 : tie.Need-float-same-requires-5
+float-same-requires-5 c κs = search needs
+
+-- src/lib.rt:65:11
+stage-same-requires : tie.Need-stage-same-requires
+stage-same-requires c κs = search needs
+
+-- src/lib.rt:66:11
+float-same-requires-6 : tie.Need-float-same-requires-6
+float-same-requires-6 c κs = search needs
+
+-- src/lib.rt:67:11
+float-same-requires-7 : tie.Need-float-same-requires-7
+float-same-requires-7 c κs = search needs
+
+-- src/lib.rt:55:1
+returns : tie.Need-returns
+returns c =
+    means
+    (λ p i. record { a = p .0 .0 .0 .0 .0 .0 .0 i; d = p .0 .0 .0 .0 .0 .0 .1 i; s = p .0 .0 .0 .0 .0 .1 i; r = p .0 .0 .0 .0 .1 i; sr = p .0 .0 .0 .1 i; stage = p .0 .0 .1 i; level = p .0 .1 i; «rel_from» = p .1 i })
+    (λ q. rw q (((((((refl, refl), refl), refl), refl), refl), refl), refl))
+    (c .before .before .before .before .before .before .before .float-same .ensures
+    & c .before .before .before .before .before .before .float-same2 .ensures
+    & c .before .before .before .before .before .float-same3 .ensures
+    & c .before .before .before .before .float-same4 .ensures
+    & c .before .before .before .float-same5 .ensures
+    & c .before .before .stage-same .ensures
+    & c .before .float-same6 .ensures
+    & c .float-same7 .ensures)
+
+pub env-same-spec : {M : Type 1} → statement M
+env-same-spec =
+    tie.close
+    (tie.spec
+    float-same-requires
+    float-same-requires-2
+    float-same-requires-3
+    float-same-requires-4
+    float-same-requires-5
+    stage-same-requires
+    float-same-requires-6
+    float-same-requires-7
+    returns)
