@@ -2,21 +2,19 @@
 use mathlib.Core.Path.{_≡_, refl, ap, sym, _∙_}
 use mathlib.Core.List.{List, [], _∷_, _++_, flatMap}
 use Prim.Native.Nat.{ℕ, zero, suc, _+_, _*_, _≤_, _<_, min}
-use native.Mathlib.Nat.{mul-zero, mul-suc, mul-add}
+use native.Mathlib.Nat.{mul-zero, mul-suc}
 use native.Mathlib.Omega.{arith}
 use lib.Ieee.{Float}
 use lib.ListN.{length, take, drop, getD, length-append}
 use Rattle.lists.specs.Parts.{part-size, part-front, flat-more}
-use Rattle.lists.specs.Prefix.{drop-more}
 use Rattle.stream.specs.declared.UnisonCopy.{UnisonCopy}
 use Rattle.stream.specs.Pitch.{glided, curve, stepped, GlidedOver}
 use Rattle.model.specs.Types as model
-use Rattle.model.specs.Voices.{copiesIn}
 use Rattle.model.specs.Plan.{curves}
 use Rattle.voice.specs.declared.Voice.{Voice}
 use Rattle.voice.specs.View.{shown}
 use Rattle.voice.proofs.Sizes.{pastEnd}
-use Rattle.voices.proofs.Table.{table, table-size, table-at}
+use Rattle.voices.proofs.Table.{table, in-table, read-here}
 
 pub curve-length : (n : ℕ) (c : UnisonCopy) → length (curve n c) ≡ n
 unfolding curve
@@ -49,28 +47,8 @@ curves-length frames (c ∷ cs) =
     let m = mul-suc frames (length cs) in
     omega (arith, a, h, l, m)
 
--- what is left of the curve after the voice at i
-voice-left : (xs : List model.Voice) (i at frames l : ℕ) (d : model.Voice) → i < length xs → at + frames * copiesIn (drop i xs) ≡ l
-    → at + frames * length (getD xs i d .copies) + frames * copiesIn (drop (i + 1) xs) ≡ l
-voice-left xs i at frames l d h e =
-    let m = mul-add frames (length (getD xs i d .copies)) (copiesIn (drop (i + 1) xs)) in
-    let q : at + frames * (length (getD xs i d .copies) + copiesIn (drop (i + 1) xs)) ≡ l = rw (drop-more xs i d h) at e in
-    omega (arith, m)
-
 -- one voice's part: v is the voice that the pass reads at i
 module _ (n : ℕ) (vs : List Voice) (v : Voice) (i frames : ℕ) (len : length vs ≡ 64) (h : i < min n 64) (read : v ≡ getD vs i pastEnd) where
-  in-table : i < length (table n vs)
-  in-table = let s = table-size n vs len in omega arith
-
-  here : getD (table n vs) i model.noVoice ≡ shown v
-  here = table-at n vs i (omega arith) ∙ ap shown (sym read)
-
-  pub rows-left : (at l rows : ℕ) → rows ≡ length (shown v .copies) → at + frames * copiesIn (drop i (table n vs)) ≡ l
-      → at + frames * rows + frames * copiesIn (drop (i + 1) (table n vs)) ≡ l
-  rows-left at l rows r e =
-      let rows-here : length (getD (table n vs) i model.noVoice .copies) ≡ rows = ap (λ (w : model.Voice). length (w .copies)) here ∙ sym r in
-      rw rows-here at (voice-left (table n vs) i at frames l model.noVoice in-table e)
-
   pub voice-writes : (at k rows : ℕ) (xs ys : List Float) → rows ≡ length (shown v .copies) → k ≡ frames * rows → at + frames * rows ≤ length xs
       → ys ≡ flatMap (curve frames) (shown v .copies) → take at xs ≡ curves frames (take i (table n vs))
       → take (at + frames * rows) (take at xs ++ (ys ++ drop k (drop at xs))) ≡ curves frames (take (i + 1) (table n vs))
@@ -80,5 +58,5 @@ module _ (n : ℕ) (vs : List Voice) (v : Voice) (i frames : ℕ) (len : length 
       let g : model.Voice → List Float = λ (w : model.Voice). flatMap (curve frames) (w .copies) in
       wider at k (frames * rows) xs ys (flatMap (curve frames) (shown v .copies)) e l f size
       ∙ ap (λ (z : List Float). z ++ flatMap (curve frames) (shown v .copies)) w
-      ∙ ap (λ (u : model.Voice). flatMap g (take i (table n vs)) ++ g u) (sym here)
-      ∙ sym (flat-more g (table n vs) i model.noVoice in-table)
+      ∙ ap (λ (u : model.Voice). flatMap g (take i (table n vs)) ++ g u) (sym (read-here n vs v i len h read))
+      ∙ sym (flat-more g (table n vs) i model.noVoice (in-table n vs v i len h read))

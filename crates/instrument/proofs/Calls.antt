@@ -19,7 +19,7 @@ use Rattle.voice.specs.Changes.{onSeen, noSeen}
 use Rattle.voice.specs.declared.Voice.{Voice}
 use Rattle.formed.specs.Held.{heldFirst}
 use Rattle.instrument.specs.View.{view, counted, formed}
-use Rattle.instrument.specs.Calls.{replyOf, refusalOf, replyTo, CallAs, Gives, answeredAs, refusedAs, barredBy, placedAs}
+use Rattle.instrument.specs.Calls.{replyOf, refusalOf, replyTo, CallAs, Gives, answeredAs, refusedAs, barredBy, placedAs, StepAs}
 use Rattle.instrument.specs.declared.Instrument.{Instrument}
 use Rattle.formed.specs.declared.Held.{Held}
 use Rattle.instrument.specs.declared.Outcome.{Outcome}
@@ -77,7 +77,7 @@ module _ (s : Instrument) (c : M.Call) where
   unfolding refusalOf refusal blockOpen blockMissing noBlock view
   spent f m a b d = rw (f .counted, f .well, m, eq-eqb (s .frames) 0 (f .closed), a, b, d)
 
-  counted-of : refusalOf s c ≡ 0 → counted s ≡ true
+  pub counted-of : refusalOf s c ≡ 0 → counted s ≡ true
   unfolding refusalOf
   counted-of e = by (counted s) refl
     where
@@ -94,7 +94,7 @@ module _ (s : Instrument) (c : M.Call) where
   unfolding step
   step-accepted e = sym (cond-true _ _ _ (eq-eqb (refusal (view s) c) 0 e))
 
-  refusal-in : counted s ≡ true → refusal (view s) c ≡ refusalOf s c
+  pub refusal-in : counted s ≡ true → refusal (view s) c ≡ refusalOf s c
   unfolding refusalOf
   refusal-in e = sym (cond-true _ _ _ e)
 
@@ -106,17 +106,20 @@ module _ (s : Instrument) (c : M.Call) where
       by true p = step-refused n (refusal-in p ∙ e) z ∙ sym (cond-true _ _ _ p)
       by false p = ap M.Reply.refused (sym e ∙ cond-false _ _ _ p) ∙ sym (cond-false _ _ _ p)
 
-  pub accepted-call : (r : Outcome) → refusalOf s c ≡ 0 → Gives (accepted (view s) c) r → CallAs s c r
+  pub accepted-step : (said : M.Reply) (t : Instrument) → refusalOf s c ≡ 0 → said ≡ accepted (view s) c .reply → counted t ≡ true → view t ≡ accepted (view s) c .model → StepAs s c said t
   unfolding replyTo
-  accepted-call r e g =
+  accepted-step said t e f g h =
       let k = counted-of e in
       let a = step-accepted (refusal-in k ∙ e) in
       record {
-        reply = g .reply ∙ ap (λ (o : M.Outcome). o .reply) a ∙ sym (cond-true _ _ _ k);
+        reply = f ∙ ap (λ (o : M.Outcome). o .reply) a ∙ sym (cond-true _ _ _ k);
         refused = λ q. absurd (q e);
-        inRoom = λ _. g .inRoom;
-        next = λ _. g .next ∙ ap (λ (o : M.Outcome). o .model) a;
+        inRoom = λ _. g;
+        next = λ _. h ∙ ap (λ (o : M.Outcome). o .model) a;
       }
+
+  pub accepted-call : (r : Outcome) → refusalOf s c ≡ 0 → Gives (accepted (view s) c) r → CallAs s c r
+  accepted-call r e g = accepted-step (replyOf (r .reply)) (r .state) e (g .reply) (g .inRoom) (g .next)
 
 -- ---- the next state
 

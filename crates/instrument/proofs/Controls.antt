@@ -29,22 +29,23 @@ use Rattle.instrument.specs.declared.Reply.the-variants.{Done, Released}
 use Rattle.instrument.proofs.Calls.{Free, counts, plain-call, gives-same, gives-placed}
 use Rattle.instrument.proofs.Formed.{tableOf}
 
+-- every voice changed
+module _ (s : Instrument) (g : M.Voice → M.Voice) (ws : List Voice) (e : seenFirst (s .«voice_count») ws ≡ map (onSeen g) (tableOf s)) where
+  pub mapped-room : counted s ≡ true → inRoom (seenFirst (s .«voice_count») ws) ≡ true
+  mapped-room k = ap inRoom e ∙ room-map g (tableOf s) ∙ counts s k .room
+
+  pub mapped-voices : voicesOf (seenFirst (s .«voice_count») ws) ≡ map g (voicesOf (tableOf s))
+  mapped-voices = ap voicesOf e ∙ map-seen g (tableOf s)
+
 module _ (s : Instrument) (f : Free s) where
-  -- every voice changed
-  pub mapped-room : (g : M.Voice → M.Voice) (ws : List Voice) → seenFirst (s .«voice_count») ws ≡ map (onSeen g) (tableOf s) → inRoom (seenFirst (s .«voice_count») ws) ≡ true
-  mapped-room g ws e = ap inRoom e ∙ room-map g (tableOf s) ∙ counts s (f .counted) .room
-
-  pub mapped-voices : (g : M.Voice → M.Voice) (ws : List Voice) → seenFirst (s .«voice_count») ws ≡ map (onSeen g) (tableOf s) → voicesOf (seenFirst (s .«voice_count») ws) ≡ map g (voicesOf (tableOf s))
-  mapped-voices g ws e = ap voicesOf e ∙ map-seen g (tableOf s)
-
   pub all-off-call : (ws : List Voice) (r : Outcome) → seenFirst (s .«voice_count») ws ≡ map (onSeen releasedVoice) (tableOf s)
       → r ≡ answeredAs Done (placedAs s ws (s .«voice_count») (s .«next_handle») (s .sustain) (record { notes = s .held; count = 0 })) → CallAs s M.Call.allOff r
   unfolding allOffOf view
   all-off-call ws r e q =
       let k = counts s (f .counted) in
       plain-call s M.Call.allOff r f refl refl refl refl
-      (gives-placed s ws (s .«voice_count») (s .«next_handle») (s .sustain) _ Done _ r q (k .voices64) (omega arith) (mapped-room releasedVoice ws e) refl
-      (ap (λ (vs : List M.Voice). placed (view s) vs (s .«next_handle») (s .sustain) []) (mapped-voices releasedVoice ws e)))
+      (gives-placed s ws (s .«voice_count») (s .«next_handle») (s .sustain) _ Done _ r q (k .voices64) (omega arith) (mapped-room s releasedVoice ws e (f .counted)) refl
+      (ap (λ (vs : List M.Voice). placed (view s) vs (s .«next_handle») (s .sustain) []) (mapped-voices s releasedVoice ws e)))
 
   pub pedal-down-call : (r : Outcome) → r ≡ answeredAs Done (placedAs s (s .voices) (s .«voice_count») (s .«next_handle») true (holdingOf s)) → CallAs s (M.Call.pedal true) r
   unfolding pedalOf view
@@ -59,8 +60,8 @@ module _ (s : Instrument) (f : Free s) where
   pedal-up-call ws r e q =
       let k = counts s (f .counted) in
       plain-call s (M.Call.pedal false) r f refl refl refl refl
-      (gives-placed s ws (s .«voice_count») (s .«next_handle») false (holdingOf s) Done _ r q (k .voices64) (k .held256) (mapped-room liftedVoice ws e) refl
-      (ap (λ (vs : List M.Voice). placed (view s) vs (s .«next_handle») false (view s .held)) (mapped-voices liftedVoice ws e)))
+      (gives-placed s ws (s .«voice_count») (s .«next_handle») false (holdingOf s) Done _ r q (k .voices64) (k .held256) (mapped-room s liftedVoice ws e (f .counted)) refl
+      (ap (λ (vs : List M.Voice). placed (view s) vs (s .«next_handle») false (view s .held)) (mapped-voices s liftedVoice ws e)))
 
   -- one voice changed
   pub changed-room : (g : M.Voice → M.Voice) (k : ℕ) (ws : List Voice) → seenFirst (s .«voice_count») ws ≡ set (tableOf s) k (onSeen g (getD (tableOf s) k noSeen)) → inRoom (seenFirst (s .«voice_count») ws) ≡ true
@@ -101,11 +102,11 @@ module _ (s : Instrument) (f : Free s) where
 module _ (s : Instrument) (f : Free s) (g : UnisonCopy → UnisonCopy) (ws : List Voice) (e : seenFirst (s .«voice_count») ws ≡ map (onSeen (withCopies g)) (tableOf s)) (b c : Float) where
   tuned-room : counted (tunedAs s ws b c) ≡ true
   unfolding counted tunedAs
-  tuned-room = let k = counts s (f .counted) in rw (le-leb (s .«voice_count») 64 (k .voices64), le-leb (s .«held_count») 256 (k .held256)) (mapped-room s f (withCopies g) ws e)
+  tuned-room = let k = counts s (f .counted) in rw (le-leb (s .«voice_count») 64 (k .voices64), le-leb (s .«held_count») 256 (k .held256)) (mapped-room s (withCopies g) ws e (f .counted))
 
   tuned-view : view (tunedAs s ws b c) ≡ tuned (view s) (map (withCopies g) (voicesOf (tableOf s))) b c
   unfolding view tunedAs tuned
-  tuned-view = ap (λ (vs : List M.Voice). tuned (view s) vs b c) (mapped-voices s f (withCopies g) ws e)
+  tuned-view = ap (λ (vs : List M.Voice). tuned (view s) vs b c) (mapped-voices s (withCopies g) ws e)
 
   gives-tuned : (o : M.Outcome) (r : Outcome) → r ≡ answeredAs Done (tunedAs s ws b c) → M.Reply.done ≡ o .reply → tuned (view s) (map (withCopies g) (voicesOf (tableOf s))) b c ≡ o .model → Gives o r
   gives-tuned o r q a m = rw q (record { reply = a; inRoom = tuned-room; next = tuned-view ∙ m })

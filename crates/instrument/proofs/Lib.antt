@@ -7,3 +7,5 @@ pub mod Starts
 pub mod Queries
 pub mod Offs
 pub mod Ons
+pub mod Plans
+pub mod Mixes

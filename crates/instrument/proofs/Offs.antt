@@ -59,7 +59,7 @@ module _ (s : Instrument) (f : Free s) (lv : length (s .voices) ≡ 64) where
   pub falls-all : (held : List ℕ) (ws : List Voice) → length held ≡ 0 → seenFirst (s .«voice_count») ws ≡ map (onSeen (offSounding (s .sustain))) (tableOf s) → FallsBack s held ws
   unfolding fallenBack noneHeld view
   falls-all held ws z e =
-      record { room = mapped-room s f (offSounding (s .sustain)) ws e; voices = mapped-voices s f (offSounding (s .sustain)) ws e ∙ sym (cond-true _ _ _ (eq-eqb (length held) 0 z)) }
+      record { room = mapped-room s (offSounding (s .sustain)) ws e (f .counted); voices = mapped-voices s (offSounding (s .sustain)) ws e ∙ sym (cond-true _ _ _ (eq-eqb (length held) 0 z)) }
 
   pub falls-one : (held : List ℕ) (ws : List Voice) (k x : ℕ) → (length held ≡ 0 → ⊥) → x ≡ newestHeld held → k ≡ findAt sounding (voicesOf (tableOf s))
       → seenFirst (s .«voice_count») ws ≡ set (tableOf s) k (onSeen (aimedAt (s .design .glide) x) (getD (tableOf s) k noSeen)) → FallsBack s held ws

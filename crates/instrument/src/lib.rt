@@ -12,6 +12,7 @@ ghost use Rattle.model.specs.Notes.{velocityOf, polyOff, monoOff, noteOffOf, st
 ghost use Rattle.formed.specs.Held.{heldFirst};
 ghost use Rattle.instrument.specs.View.{view, counted, formed as formedState};
 ghost use Rattle.instrument.specs.Calls.{emptyModel, refusedAs, answeredAs, barredBy, placedAs, holdingOf, tabledAs, tunedAs, FallsBack, lastHandle, StrikeAs, MonoAs, CallAs, StartAs, Gives};
+ghost use Rattle.instrument.specs.Plans.{blockedAs};
 ghost use Rattle.instrument.specs.Asked.{answerOf, askedOf, VoiceAs};
 use design::Adsr;
 use design::DesignReply;
@@ -26,6 +27,9 @@ use voice::CopyChange;
 use voice::Voice;
 use voice::VoiceChange;
 use voice::VoiceTest;
+
+mod mix;
+mod plan;
 
 pub struct Instrument {
     pub design: InstrumentDesign,
@@ -69,6 +73,20 @@ pub enum Reply {
 
 pub struct Outcome {
     pub reply: Reply,
+    pub state: Instrument,
+}
+
+// What Mix replies; the number is that of the refusal.
+pub enum MixReply {
+    // How many voices ended.
+    Mixed(usize),
+    Refused(u8),
+}
+
+pub struct MixOutcome {
+    pub reply: MixReply,
+    // The handles of the voices that ended, in table order, with zeros behind.
+    pub ended: [u64; 64],
     pub state: Instrument,
 }
 
@@ -381,6 +399,16 @@ impl Instrument {
         self.voices = vs;
         self.bend = bend;
         self.brightness = brightness;
+        self
+    }
+
+    // Another table, and a block of so many frames open, or none.
+    fn blocked(mut self, vs: [Voice; 64], count: usize, frames: usize) -> Instrument
+        ensures { λ r. ⌜ r ≡ blockedAs self vs count frames ⌝ }
+    {
+        self.voices = vs;
+        self.voice_count = count;
+        self.frames = frames;
         self
     }
 

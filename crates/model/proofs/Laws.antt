@@ -112,7 +112,7 @@ unfolding withCopies withVoice
 copies-same f [] = refl
 copies-same f (v ∷ vs) = let a = length-map (v .copies) f in let b = copies-same f vs in omega arith
 
-modulated-copies : (m : Model) (n : ℕ) (vibrato filter sine : Float) → copiesIn (modulatedBy m n vibrato filter sine .voices) ≡ copiesIn (m .voices)
+pub modulated-copies : (m : Model) (n : ℕ) (vibrato filter sine : Float) → copiesIn (modulatedBy m n vibrato filter sine .voices) ≡ copiesIn (m .voices)
 unfolding modulatedBy applied moved
 modulated-copies m n vibrato filter sine =
     chosen (λ (t : Model). copiesIn (t .voices) ≡ copiesIn (m .voices)) (modulated (m .design .modulation)) _ _ (λ _. copies-same _ (m .voices)) (λ _. refl)

@@ -1,12 +1,13 @@
 -- The model's table of the first n voices of an array of 64: its size, and what stands at a place that a pass reads.
-use mathlib.Core.Path.{_≡_, ap, _∙_}
+use mathlib.Core.Path.{_≡_, ap, sym, _∙_}
 use mathlib.Core.List.{List, [], _∷_, _++_}
-use Prim.Native.Nat.{ℕ, _+_, _<_, min}
+use native.Mathlib.Nat.{mul-add}
+use Prim.Native.Nat.{ℕ, _+_, _*_, _<_, min}
 use native.Mathlib.Omega.{arith}
-use lib.ListN.{length, take, getD, length-map, length-take, List·getD-map}
+use lib.ListN.{length, take, drop, getD, length-map, length-take, List·getD-map}
 use Rattle.float32.proofs.Ordering.{level-order}
 use Rattle.lists.specs.Least.{Ordered}
-use Rattle.lists.specs.Prefix.{take-more, shown-at}
+use Rattle.lists.specs.Prefix.{take-more, drop-more, shown-at}
 use Rattle.model.specs.Types as model
 use Rattle.model.specs.Voices.{quieter, copiesIn}
 use Rattle.voice.specs.declared.Voice.{Voice}
@@ -47,3 +48,25 @@ quieter-order = record {
   oneWay = λ v w. level-order .ordered .oneWay (v .env .level) (w .env .level);
   through = λ u v w. level-order .ordered .through (u .env .level) (v .env .level) (w .env .level);
 }
+
+-- how many numbers are left for the voices after the one at i, where each copy has `frames`
+voice-left : (xs : List model.Voice) (i at frames l : ℕ) (d : model.Voice) → i < length xs → at + frames * copiesIn (drop i xs) ≡ l
+    → at + frames * length (getD xs i d .copies) + frames * copiesIn (drop (i + 1) xs) ≡ l
+voice-left xs i at frames l d h e =
+    let m = mul-add frames (length (getD xs i d .copies)) (copiesIn (drop (i + 1) xs)) in
+    let q : at + frames * (length (getD xs i d .copies) + copiesIn (drop (i + 1) xs)) ≡ l = rw (drop-more xs i d h) at e in
+    omega (arith, m)
+
+-- v is the voice that a pass reads at i
+module _ (n : ℕ) (vs : List Voice) (v : Voice) (i : ℕ) (len : length vs ≡ 64) (h : i < min n 64) (read : v ≡ getD vs i pastEnd) where
+  pub in-table : i < length (table n vs)
+  in-table = let s = table-size n vs len in omega arith
+
+  pub read-here : getD (table n vs) i model.noVoice ≡ shown v
+  read-here = table-at n vs i (omega arith) ∙ ap shown (sym read)
+
+  pub rows-left : (frames at l rows : ℕ) → rows ≡ length (shown v .copies) → at + frames * copiesIn (drop i (table n vs)) ≡ l
+      → at + frames * rows + frames * copiesIn (drop (i + 1) (table n vs)) ≡ l
+  rows-left frames at l rows r e =
+      let rows-here : length (getD (table n vs) i model.noVoice .copies) ≡ rows = ap (λ (w : model.Voice). length (w .copies)) read-here ∙ sym r in
+      rw rows-here at (voice-left (table n vs) i at frames l model.noVoice in-table e)

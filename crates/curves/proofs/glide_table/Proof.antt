@@ -16,8 +16,8 @@ use Rattle.voice.specs.declared.Voice.{Voice}
 use Rattle.voice.specs.View.{seen}
 use Rattle.voice.specs.Changes.{onSeen}
 use Rattle.voice.proofs.Sizes.{pastEnd}
-use Rattle.voices.proofs.Table.{table, table-size}
-use Rattle.curves.proofs.Glides.{rows-left, voice-writes}
+use Rattle.voices.proofs.Table.{table, table-size, rows-left}
+use Rattle.curves.proofs.Glides.{voice-writes}
 use Rattle.curves.proofs.glide_table.Statement.{statement}
 use Rattle.curves.proofs.glide_table.Tie as tie
 
@@ -39,7 +39,7 @@ module _ (d : tie.After-copies-shown Inv-loop μ-loop) where
       let s = b .before .before .before in
       let a = s .args in
       let len : length (a .vs) ≡ 64 = s .good .0 .1 .0 .1 in
-      rows-left (a .n) (a .vs) (getD (b .loop .ws) (b .loop .i) pastEnd) (b .loop .i) (a .frames) len (omega arith) (pass-read pastEnd (b .loop .inv .3)) (b .loop .at) _ (d .copies-shown .result) (d .copies-shown .ensures .1) (b .loop .inv .2)
+      rows-left (a .n) (a .vs) (getD (b .loop .ws) (b .loop .i) pastEnd) (b .loop .i) len (omega arith) (pass-read pastEnd (b .loop .inv .3)) (a .frames) (b .loop .at) _ (d .copies-shown .result) (d .copies-shown .ensures .1) (b .loop .inv .2)
 
 smaller-requires : tie.Need-smaller-requires Inv-loop μ-loop
 smaller-requires c κs = search needs

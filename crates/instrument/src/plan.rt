@@ -1,0 +1,172 @@
+// Plan (the Rust's `apply_modulation`, and `glide_block` of every copy): the pitch curve of the next block.
+
+ghost use mathlib.Core.Path.{_≡_};
+ghost use mathlib.Core.Bool.{true};
+ghost use mathlib.Core.List.{List};
+ghost use Prim.Native.Nat.{_*_, _≤_};
+ghost use lib.Ieee.{Float};
+ghost use lib.ListN.{length};
+ghost use Rattle.envelope.specs.Start.{rateFits};
+ghost use Rattle.design.specs.Accepted.{isAccepted};
+ghost use Rattle.model.specs.Types.{Call};
+ghost use Rattle.model.specs.Formed.{framesFit};
+ghost use Rattle.model.specs.Voices.{copiesIn};
+ghost use Rattle.model.specs.Plan.{vibratoFactor, filterFactor, tremoloGain, applied};
+ghost use Rattle.instrument.specs.View.{view};
+ghost use Rattle.instrument.specs.Calls.{refusalOf};
+ghost use Rattle.instrument.specs.Plans.{PlannedAs, stepOf, phaseOn, wobbleOf, movedAs, StandsFor, ModulatedAs, OpenedAs};
+use crate::Instrument;
+use crate::Outcome;
+use crate::Reply;
+use crate::answered;
+use crate::frames_fit;
+use crate::refused;
+use design::Modulation;
+use voice::CopyChange;
+use voice::Voice;
+use voice::VoiceChange;
+
+// The host's factor, where the vibrato has a depth.
+fn vibrato_factor(m: Modulation, vibrato: f32) -> f32
+    ensures { λ x. ⌜ x ≡ vibratoFactor m vibrato ⌝ }
+{
+    if m.vibrato_cents > 0.0 { vibrato } else { 1.0 }
+}
+
+fn filter_factor(m: Modulation, filter: f32) -> f32
+    ensures { λ x. ⌜ x ≡ filterFactor m filter ⌝ }
+{
+    if m.filter_octaves > 0.0 { filter } else { 1.0 }
+}
+
+// Only the depth counts here, not the rate.
+fn tremolo_gain(m: Modulation, sine: f32) -> f32
+    ensures { λ x. ⌜ x ≡ tremoloGain m sine ⌝ }
+{
+    if m.tremolo_depth > 0.0 {
+        return 1.0 - m.tremolo_depth * 0.5 * (1.0 - sine);
+    }
+    1.0
+}
+
+// Seconds of a block. Both numbers are floats exactly.
+fn step_of(frames: usize, rate: u32) -> f32
+    requires { ⌜ (frames ≤ 1024) × (rateFits rate ≡ true) ⌝ }
+    ensures { λ x. ⌜ x ≡ stepOf frames rate ⌝ }
+{
+    frames as f32 / rate as f32
+}
+
+fn phase_on(phase: f32, rate: f32, step: f32) -> f32
+    ensures { λ x. ⌜ x ≡ phaseOn phase rate step ⌝ }
+{
+    float32::fract(phase + rate * step)
+}
+
+// The cutoff moves only where the filter has a depth.
+fn wobble(m: Modulation, bend: f32, cutoff: f32) -> VoiceChange
+    ensures { λ c. ⌜ c ≡ wobbleOf m bend cutoff ⌝ }
+{
+    if m.filter_octaves > 0.0 {
+        return VoiceChange::Copies(CopyChange::Wobble(bend, cutoff));
+    }
+    VoiceChange::Copies(CopyChange::Bend(bend))
+}
+
+impl Instrument {
+    // Other copies, phases and tremolo gain.
+    fn moved(
+        mut self,
+        vs: [Voice; 64],
+        vib_phase: f32,
+        flt_phase: f32,
+        trem_phase: f32,
+        trem: f32,
+    ) -> Instrument
+        ensures { λ r. ⌜ r ≡ movedAs self vs «vib_phase» «flt_phase» «trem_phase» trem ⌝ }
+    {
+        self.voices = vs;
+        self.vib_phase = vib_phase;
+        self.flt_phase = flt_phase;
+        self.trem_phase = trem_phase;
+        self.trem = trem;
+        self
+    }
+
+    // The host's values act on every copy, and the phases move on by the block.
+    fn apply_modulation(self, frames: usize, vibrato: f32, filter: f32, sine: f32) -> Instrument
+        requires { ⌜ (frames ≤ 1024) × (rateFits (self .design .«sample_rate») ≡ true) ⌝ }
+        ensures { λ r. ⌜ StandsFor self (applied (view self) frames vibrato filter sine) r ⌝ }
+    {
+        let design = self.design;
+        let m = design.modulation;
+        let bend = self.bend * vibrato_factor(m, vibrato);
+        let cutoff = self.brightness * filter_factor(m, filter);
+        let trem = tremolo_gain(m, sine);
+        let step = step_of(frames, design.sample_rate);
+        let vib_phase = phase_on(self.vib_phase, m.vibrato_rate, step);
+        let flt_phase = phase_on(self.flt_phase, m.filter_rate, step);
+        let trem_phase = phase_on(self.trem_phase, m.tremolo_rate, step);
+        let vs = self.voices;
+        let ws = voices::change_all(vs, self.voice_count, wobble(m, bend, cutoff));
+        self.moved(ws, vib_phase, flt_phase, trem_phase, trem)
+    }
+
+    fn modulated_by(self, frames: usize, vibrato: f32, filter: f32, sine: f32) -> Instrument
+        requires { ⌜ (isAccepted (self .design) ≡ true) × (framesFit (self .design) frames ≡ true) ⌝ }
+        ensures { λ r. ⌜ ModulatedAs self frames vibrato filter sine r ⌝ }
+    {
+        let design = self.design;
+        let m = design.modulation;
+        if m.is_active() {
+            return self.apply_modulation(frames, vibrato, filter, sine);
+        }
+        self
+    }
+
+    // The copies glide on through the block, and their pitch fills the curve.
+    fn open_block(self, frames: usize, curve: &mut [f32]) -> Instrument
+        requires { ⌜ frames * copiesIn (view self .voices) ≡ length (now curve) ⌝ }
+        ensures { λ r. ⌜ OpenedAs self frames (now (curve .exit)) r ⌝ }
+    {
+        let vs = self.voices;
+        let ws = curves::glide_all(vs, self.voice_count, frames, curve);
+        self.blocked(ws, self.voice_count, frames)
+    }
+
+    // The number of the refusal of a plan with a curve of length `len`, 0 where it is accepted.
+    fn plan_refusal(self, frames: usize, len: usize) -> u8
+        ensures { λ n. ⌜ ((vibrato filter sine : Float) (curve : List Float) → length curve ≡ len → n ≡ refusalOf self (Call.plan frames vibrato filter sine curve)) ⌝ }
+    {
+        let barred = self.barred();
+        if barred != 0 {
+            return barred;
+        }
+        let design = self.design;
+        if !frames_fit(design, frames) {
+            return 4;
+        }
+        // In a well formed table every voice has the design's copies.
+        let copies = self.voice_count * (design.copies() as usize);
+        if len == frames * copies { 0 } else { 7 }
+    }
+
+    // Plans a block: modulation first, where it is active, then the pitch of every copy, frame by frame.
+    pub fn plan(
+        self,
+        frames: usize,
+        vibrato: f32,
+        filter: f32,
+        tremolo_sine: f32,
+        curve: &mut [f32],
+    ) -> Outcome
+        ensures { λ r. ⌜ PlannedAs self frames vibrato filter «tremolo_sine» (now (curve .entry)) (now (curve .exit)) r ⌝ }
+    {
+        let number = self.plan_refusal(frames, curve.len());
+        if number != 0 {
+            return refused(self, number);
+        }
+        let state = self.modulated_by(frames, vibrato, filter, tremolo_sine);
+        answered(Reply::Planned, state.open_block(frames, curve))
+    }
+}

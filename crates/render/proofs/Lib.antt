@@ -1,0 +1,3 @@
+pub mod Retaining
+pub mod Parts
+pub mod Turns

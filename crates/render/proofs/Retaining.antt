@@ -1,0 +1,98 @@
+-- The pass that drops ended voices and reports them, at one turn.
+use mathlib.Core.Path.{_≡_, refl, ap, sym}
+use mathlib.Core.Bool.{Bool, true, false, not}
+use mathlib.Core.List.{List, [], _∷_, _++_, map, map-append, append-assoc, append-nil}
+use Prim.Native.Nat.{ℕ, suc, _+_, _-_, _≤_, _<_}
+use native.Mathlib.Omega.{arith}
+use lib.ListN.{length, set, length-append}
+use lib.Seq.{set-at}
+use Rattle.lists.specs.All.{all}
+use Rattle.lists.specs.Choose.{both}
+use Rattle.lists.specs.Pass.{Pass, pass-keep, pass-skip}
+use Rattle.lists.specs.Places.{kept, kept-append}
+use Rattle.model.specs.Types as model
+use Rattle.model.specs.Voices.{isEnded}
+use Rattle.model.specs.Mix.{remaining, endedHandles}
+use Rattle.voice.specs.declared.Voice.{Voice}
+use Rattle.voice.specs.View.{shown}
+use Rattle.voice.specs.View.{Seen, seen}
+use Rattle.voices.specs.View.{voicesOf}
+use Rattle.render.specs.Retains.{padded}
+
+-- the view of those that pass is those of the view
+pub map-kept : {A B : Type 0} (f : A → B) (q : B → Bool) (xs : List A) → map f (kept (λ (a : A). q (f a)) xs) ≡ kept q (map f xs)
+map-kept f q [] = refl
+map-kept f q (x ∷ xs) = by (q (f x)) refl (map-kept f q xs)
+  where
+    by : (b : Bool) → q (f x) ≡ b → map f (kept (λ (a : _). q (f a)) xs) ≡ kept q (map f xs)
+        → map f (kept (λ (a : _). q (f a)) (x ∷ xs)) ≡ kept q (map f (x ∷ xs))
+    by true e ih = rw e (ap (_∷_ (f x)) ih)
+    by false e ih = rw e ih
+
+-- what all pass is passed by those that are kept
+pub all-kept : {A : Type 0} (p q : A → Bool) (xs : List A) → all p xs ≡ true → all p (kept q xs) ≡ true
+all-kept p q [] e = refl
+all-kept p q (x ∷ xs) e =
+    let h = both (p x) (all p xs) e in
+    by (q x) refl (h .0) (all-kept p q xs (h .1))
+  where
+    by : (b : Bool) → q x ≡ b → p x ≡ true → all p (kept q xs) ≡ true → all p (kept q (x ∷ xs)) ≡ true
+    by true f g ih = rw (f, g) ih
+    by false f g ih = rw f ih
+
+pub goesOn : Seen → Bool
+goesOn x = not (isEnded (x .voice))
+
+pub remaining-seen : (l : List Seen) → voicesOf (kept goesOn l) ≡ remaining (voicesOf l)
+unfolding remaining goesOn
+remaining-seen l = map-kept (λ (x : Seen). x .voice) (λ (v : model.Voice). not (isEnded v)) l
+
+pad-more : (l : List ℕ) (h : ℕ) → length l < 64 → set (padded l) (length l) h ≡ padded (l ++ (h ∷ []))
+pad-more l h g =
+    let a : 64 - length l ≡ suc (64 - length (l ++ (h ∷ []))) = simp length-append (omega arith) in
+    rw (a, append-assoc) (set-at l _ _ h (length l) refl)
+
+ended-more : (l : List Seen) (x : Seen)
+    → endedHandles (voicesOf (l ++ (x ∷ []))) ≡ endedHandles (voicesOf l) ++ map (λ (v : model.Voice). v .handle) (kept isEnded (x .voice ∷ []))
+unfolding endedHandles
+ended-more l x = rw (map-append (λ (x : Seen). x .voice), kept-append isEnded (voicesOf l) (x .voice ∷ []), map-append (λ (v : model.Voice). v .handle))
+
+-- the table and the report, when the voices of l are done
+pub record Retaining (l : List Seen) (w k i : ℕ) (ws : List Voice) (ended : List ℕ) (vs : List Voice) : Type 0 where
+  pub pass : Pass seen (kept goesOn l) w i ws vs
+  pub report : ended ≡ padded (endedHandles (voicesOf l))
+  pub many : k ≡ length (endedHandles (voicesOf l))
+  pub few : k ≤ i
+
+module _ {l : List Seen} {w k i : ℕ} {ws : List Voice} {ended : List ℕ} {vs : List Voice} (v : Voice) (d : Retaining l w k i ws ended vs) where
+  pub retain-on : not (isEnded (shown v)) ≡ true → i < length vs → Retaining (l ++ (seen v ∷ [])) (w + 1) k (i + 1) (set ws w v) ended vs
+  unfolding goesOn seen
+  retain-on e h =
+      let no : isEnded (shown v) ≡ false = flip (isEnded (shown v)) e in
+      let same : endedHandles (voicesOf (l ++ (seen v ∷ []))) ≡ endedHandles (voicesOf l) = rw (ended-more l (seen v), no, append-nil) in
+      record {
+        pass = rw (kept-append goesOn l (seen v ∷ []), e) (pass-keep v (seen v) refl (d .pass) h);
+        report = rw same (d .report);
+        many = rw same (d .many);
+        few = omega arith;
+      }
+    where
+      flip : (b : Bool) → not b ≡ true → b ≡ false
+      flip true e = sym e
+      flip false e = refl
+
+  pub retain-not : not (isEnded (shown v)) ≡ false → i < 64 → Retaining (l ++ (seen v ∷ [])) w (k + 1) (i + 1) ws (set ended k (v .handle)) vs
+  unfolding goesOn seen shown
+  retain-not e h =
+      let yes : isEnded (shown v) ≡ true = flip (isEnded (shown v)) e in
+      let more : endedHandles (voicesOf (l ++ (seen v ∷ []))) ≡ endedHandles (voicesOf l) ++ (v .handle ∷ []) = rw (ended-more l (seen v), yes) in
+      record {
+        pass = rw (kept-append goesOn l (seen v ∷ []), e, append-nil) (pass-skip (d .pass));
+        report = rw (d .report, d .many, more) (pad-more (endedHandles (voicesOf l)) (v .handle) (omega arith));
+        many = rw more (simp length-append (omega arith));
+        few = omega arith;
+      }
+    where
+      flip : (b : Bool) → not b ≡ false → b ≡ true
+      flip true e = refl
+      flip false e = sym e
