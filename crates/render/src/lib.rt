@@ -4,7 +4,7 @@
 ghost use mathlib.Core.Path.{_≡_};
 ghost use mathlib.Core.Bool.{not};
 ghost use mathlib.Core.List.{map, _++_};
-ghost use Prim.Native.Nat.{_+_, _*_, _<_, _≤_, min};
+ghost use Prim.Native.Nat.{_+_, _*_, _≤_, min};
 ghost use lib.ListN.{length, take, drop};
 ghost use Rattle.lists.specs.Prefix.{fold};
 ghost use Rattle.model.specs.Voices.{agedVoice, isEnded, copiesIn};
@@ -93,6 +93,7 @@ fn add_four(
     }
 }
 
+// The same by the gains of the copies.
 fn add_four_copies(
     samples: &[f32],
     at: usize,
