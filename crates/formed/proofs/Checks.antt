@@ -1,24 +1,27 @@
 -- Laws for the loops of check 1.
 use mathlib.Core.Path.{_≡_, refl, ap, sym, _∙_}
-use mathlib.Core.Bool.{Bool, true, false, not, _&&_, Bool·beq}
-use mathlib.Core.List.{List, [], _∷_, _++_, map}
-use Prim.Native.Nat.{ℕ, _+_, _≤_, _<_, min}
+use mathlib.Core.Bool.{Bool, true, false, not, _&&_}
+use mathlib.Core.List.{List, [], _∷_, map}
+use mathlib.Core.Logic.{⊎-elim}
+use Prim.Native.Nat.{ℕ, _≤_, _<_, min}
 use native.Mathlib.Omega.{arith}
 use borrow.Author.Tests.{lt-ltb, le-ltb, lt-leb, le-leb, eq-eqb, ne-eqb}
 use lib.Dec.{leb, ltb, eqb}
-use lib.ListN.{length, take, drop, getD, length-map, length-take, List·getD-map, drop-of-length-le}
+use lib.ListN.{length, take, getD, length-map, length-take, List·getD-map}
 use lib.Seq.{getD-take, length-take-le}
 use Rattle.lists.specs.Choose.{and-fails, and-then}
-use Rattle.lists.specs.Prefix.{drop-more, getD-any, take-min}
-use Rattle.model.specs.Formed.{handleFits, copiesFit, stageFits}
+use Rattle.lists.specs.Prefix.{getD-any, take-min}
 use Rattle.model.specs.Voices.{handles}
 use Rattle.voice.specs.View.{Seen, seen, shown}
 use Rattle.voices.specs.View.{seenFirst, voicesOf}
 use Rattle.model.specs.Types as M
 use Rattle.envelope.specs.declared.Stage.{Stage}
 use Rattle.envelope.specs.declared.Stage.the-variants.{Idle, Attack, Decay, Sustain, Release}
+use Rattle.envelope.proofs.Stage as StageT
+use denote.Enum.Declared.{tagOf}
+use types.Run.{OneOf}
 use Rattle.voice.specs.declared.Voice.{Voice}
-use Rattle.formed.specs.Check.{stageAgrees, voiceFits, risesFrom}
+use Rattle.formed.specs.Check.{stageAgrees, voiceFits}
 
 -- the ways out of `voice_fits`
 module _ (v : Voice) (next copies : ℕ) (size : length (v .copies) ≡ 8) where
@@ -72,22 +75,6 @@ module _ (vs : List Voice) (n : ℕ) (h : n ≤ length vs) where
       ∙ ap (λ (x : Seen). x .voice .handle) (List·getD-map seen (take n vs) i d)
       ∙ ap (λ (v : Voice). v .handle) (getD-take n vs i d k)
 
-  -- what is left of a rise
-  module _ (i low : ℕ) (d : Voice) (k : i < n) where
-    left : risesFrom low (drop i (handlesFirst n vs)) ≡ (ltb low (getD vs i d .handle) && risesFrom (getD vs i d .handle) (drop (i + 1) (handlesFirst n vs)))
-    unfolding risesFrom
-    left = let l = handles-long in rw (drop-more (handlesFirst n vs) i 0 (omega arith), handle-at i d k)
-
-    pub rise-next : low < getD vs i d .handle → risesFrom low (drop i (handlesFirst n vs)) ≡ risesFrom (getD vs i d .handle) (drop (i + 1) (handlesFirst n vs))
-    rise-next l = left ∙ sym (and-then _ _ _ (lt-ltb low _ l) refl)
-
-    pub rise-fails : getD vs i d .handle ≤ low → risesFrom low (drop i (handlesFirst n vs)) ≡ false
-    rise-fails l = left ∙ sym (and-fails _ _ (le-ltb low _ l))
-
-  pub rise-end : (low : ℕ) → risesFrom low (drop n (handlesFirst n vs)) ≡ true
-  unfolding risesFrom
-  rise-end low = let l = handles-long in ap (risesFrom low) (drop-of-length-le (handlesFirst n vs) {i = n} (omega arith))
-
 -- a pass to the smaller of the count and the array's length sees what a pass to the count would
 pub seen-least : (n : ℕ) (vs : List Voice) → length vs ≡ 64 → (e : ℕ) → e ≡ min n 64 → seenFirst e vs ≡ seenFirst n vs
 seen-least n vs l e q = ap (map seen) (ap (λ (k : ℕ). take k vs) q ∙ take-min n 64 vs l)
@@ -104,20 +91,20 @@ unfolding stageAgrees
 agrees-idle true = refl
 agrees-idle false = refl
 
-pub agrees-attack : (b : Bool) → not b ≡ stageAgrees Attack b
-unfolding stageAgrees
-agrees-attack true = refl
-agrees-attack false = refl
+-- the numbers of the stages between Idle and Release
+abbrev pub held-stages : List ℕ
+held-stages = 1 ∷ 2 ∷ 3 ∷ []
 
-pub agrees-decay : (b : Bool) → not b ≡ stageAgrees Decay b
+pub agrees-held : (st : Stage) (b : Bool) → OneOf held-stages (tagOf StageT.the-type st) → not b ≡ stageAgrees st b
 unfolding stageAgrees
-agrees-decay true = refl
-agrees-decay false = refl
-
-pub agrees-sustain : (b : Bool) → not b ≡ stageAgrees Sustain b
-unfolding stageAgrees
-agrees-sustain true = refl
-agrees-sustain false = refl
+agrees-held Idle b h = absurd (⊎-elim (λ e. omega arith) (⊎-elim (λ e. omega arith) (λ e. omega arith)) h)
+agrees-held Attack true h = refl
+agrees-held Attack false h = refl
+agrees-held Decay true h = refl
+agrees-held Decay false h = refl
+agrees-held Sustain true h = refl
+agrees-held Sustain false h = refl
+agrees-held Release b h = absurd (⊎-elim (λ e. omega arith) (⊎-elim (λ e. omega arith) (λ e. omega arith)) h)
 
 pub agrees-release : (b : Bool) → b ≡ stageAgrees Release b
 unfolding stageAgrees

@@ -3,4 +3,5 @@ pub mod Sizes
 pub mod Flags
 pub mod Holding
 pub mod Handles
+pub mod Looking
 pub mod Tables

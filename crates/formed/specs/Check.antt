@@ -1,7 +1,7 @@
 -- The parts of check 1 as the code computes them.
-use mathlib.Core.Bool.{Bool, true, false, not, _&&_, Bool·beq}
+use mathlib.Core.Bool.{Bool, true, not, _&&_, Bool·beq}
 use mathlib.Core.List.{List, [], _∷_}
-use Prim.Native.Nat.{ℕ}
+use Prim.Native.Nat.{ℕ, _+_}
 use lib.Dec.{leb, ltb, eqb}
 use Rattle.envelope.specs.declared.Stage.{Stage}
 use Rattle.envelope.specs.Gates.{isIdle, isRelease}
@@ -11,13 +11,14 @@ use Rattle.model.specs.Formed.{handleFits, copiesFit, stageFits}
 use Rattle.voice.specs.View.{Seen}
 use Rattle.voices.specs.View.{seenFirst, voicesOf}
 use Rattle.lists.specs.All.{all}
-use Rattle.lists.specs.Count.{count}
+use Rattle.lists.specs.Count.{oneIf, count}
 use Rattle.lists.specs.Perms.{distinct}
 use Rattle.design.specs.Accepted.{copiesOf}
 use Rattle.model.specs.Voices.{sounding, handles}
 use Rattle.note.specs.declared.Note.{Note}
 use Rattle.design.specs.declared.InstrumentDesign.{InstrumentDesign}
 use Rattle.voice.specs.declared.Voice.{Voice}
+use Rattle.formed.specs.declared.Looked.{Looked}
 use Rattle.formed.specs.Held.{heldFirst}
 
 -- what is asked of one voice: its count, its handle, its copies and its stage
@@ -28,6 +29,18 @@ voiceFits next copies x = leb (x .count) 8 && (handleFits next (x .voice) && (co
 unfoldable pub risesFrom : ℕ → List ℕ → Bool
 risesFrom low [] = true
 risesFrom low (x ∷ xs) = ltb low x && risesFrom x xs
+
+-- what a pass has found of no voice, and of one voice more
+unfoldable pub lookStart : Looked
+lookStart = record { sounding = 0; fit = true; rise = true; low = 0 }
+
+unfoldable pub lookNext : ℕ → ℕ → Looked → Seen → Looked
+lookNext next copies l x = record {
+  sounding = l .sounding + oneIf (sounding (x .voice));
+  fit = l .fit && voiceFits next copies x;
+  rise = l .rise && ltb (l .low) (x .voice .handle);
+  low = x .voice .handle;
+}
 
 -- the stage is Release exactly where the flag says so, and not Idle
 unfoldable pub stageAgrees : Stage → Bool → Bool

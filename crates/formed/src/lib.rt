@@ -1,16 +1,17 @@
 // Check 1 on the tables of an instrument, and the held notes of Mono.
 
 ghost use mathlib.Core.Path.{_≡_};
-ghost use mathlib.Core.Bool.{false};
+ghost use mathlib.Core.Bool.{false, _&&_};
 ghost use Prim.Native.Nat.{_<_, min};
 ghost use lib.ListN.{replicate};
-ghost use Rattle.lists.specs.All.{all};
+ghost use Rattle.lists.specs.Count.{oneIf};
 ghost use Rattle.lists.specs.Perms.{distinct};
+ghost use Rattle.lists.specs.Prefix.{fold};
 ghost use Rattle.model.specs.Voices.{handles};
 ghost use Rattle.voice.specs.View.{seen};
 ghost use Rattle.voices.specs.View.{seenFirst, voicesOf};
 ghost use Rattle.formed.specs.Held.{heldFirst, WithoutNote, WithNote};
-ghost use Rattle.formed.specs.Check.{stageAgrees, voiceFits, risesFrom, modeAgrees, tablesFit};
+ghost use Rattle.formed.specs.Check.{stageAgrees, voiceFits, lookStart, lookNext, modeAgrees, tablesFit};
 use design::InstrumentDesign;
 use design::PlayMode;
 use envelope::Stage;
@@ -31,11 +32,21 @@ fn stage_fits(stage: Stage, releasing: bool) -> bool
 {
     match stage {
         Stage::Idle => false,
-        Stage::Attack => !releasing,
-        Stage::Decay => !releasing,
-        Stage::Sustain => !releasing,
         Stage::Release => releasing,
+        _ => !releasing,
     }
+}
+
+fn one_if(b: bool) -> usize
+    ensures { λ r. ⌜ r ≡ oneIf b ⌝ }
+{
+    if b { 1 } else { 0 }
+}
+
+fn both(a: bool, b: bool) -> bool
+    ensures { λ r. ⌜ r ≡ (a && b) ⌝ }
+{
+    if a { b } else { false }
 }
 
 fn voice_fits(v: Voice, next: u64, copies: usize) -> bool
@@ -58,37 +69,47 @@ fn voice_fits(v: Voice, next: u64, copies: usize) -> bool
     stage_fits(stage, v.releasing)
 }
 
-// Whether each of the first n voices fits by itself.
-fn voices_fit(vs: [Voice; 64], n: usize, next: u64, copies: usize) -> bool
-    ensures { λ b. ⌜ b ≡ all (voiceFits next copies) (seenFirst n vs) ⌝ }
-{
-    let end = least(n, 64);
-    let mut i: usize = 0;
-    while i < end {
-        if !voice_fits(vs[i], next, copies) {
-            return false;
-        }
-        i += 1;
-    }
-    true
+// What a pass over the voices has found: how many are not releasing, whether each fits by itself, and whether the handles rise,
+// as they do where no state was made up, with the last of them.
+struct Looked {
+    sounding: usize,
+    fit: bool,
+    rise: bool,
+    low: u64,
 }
 
-// Whether the handles rise from voice to voice, as they do where no state was made up: then no two are equal.
-fn handles_rise(vs: [Voice; 64], n: usize) -> bool
-    ensures { λ b. ⌜ b ≡ risesFrom 0 (handles (voicesOf (seenFirst n vs))) ⌝ }
+// One voice more.
+fn look_at(before: Looked, v: Voice, next: u64, copies: usize) -> Looked
+    requires { ⌜ before .sounding < 64 ⌝ }
+    ensures { λ r. ⌜ r ≡ lookNext next copies before (seen v) ⌝ }
+{
+    let fits = voice_fits(v, next, copies);
+    let sounding = before.sounding + one_if(!v.releasing);
+    Looked {
+        sounding,
+        fit: both(before.fit, fits),
+        rise: both(before.rise, before.low < v.handle),
+        low: v.handle,
+    }
+}
+
+// The first n voices in one pass, since a pass copies the array.
+fn look(vs: [Voice; 64], n: usize, next: u64, copies: usize) -> Looked
+    ensures { λ r. ⌜ r ≡ fold (lookNext next copies) lookStart (seenFirst n vs) ⌝ }
 {
     let end = least(n, 64);
-    let mut low: u64 = 0;
+    let mut looked = Looked {
+        sounding: 0,
+        fit: true,
+        rise: true,
+        low: 0,
+    };
     let mut i: usize = 0;
     while i < end {
-        let v = vs[i];
-        if v.handle <= low {
-            return false;
-        }
-        low = v.handle;
+        looked = look_at(looked, vs[i], next, copies);
         i += 1;
     }
-    true
+    looked
 }
 
 // A note's place among 256 flags.
@@ -124,13 +145,10 @@ fn held_distinct(held: [Note; 256], n: usize) -> bool
     true
 }
 
-// Whether no handle stands twice. Only a table whose handles do not rise is compared in full.
+// Whether no handle stands twice, each compared with all.
 fn handles_distinct(vs: [Voice; 64], n: usize) -> bool
     ensures { λ b. ⌜ b ≡ distinct (handles (voicesOf (seenFirst n vs))) ⌝ }
 {
-    if handles_rise(vs, n) {
-        return true;
-    }
     let end = least(n, 64);
     let mut i: usize = 0;
     while i < end {
@@ -166,18 +184,28 @@ pub fn tables_fit(
     ensures { λ b. ⌜ b ≡ tablesFit design next vs n held h ⌝ }
 {
     let mode = design.mode;
-    let sounding = voices::count_of(vs, n, VoiceTest::Sounding);
-    if (design.max_voices as usize) < sounding {
+    let looked = look(vs, n, next, design.copies() as usize);
+    if (design.max_voices as usize) < looked.sounding {
         return false;
     }
-    if !mode_fits(mode, h, sounding) {
+    if !mode_fits(mode, h, looked.sounding) {
         return false;
     }
-    if !voices_fit(vs, n, next, design.copies() as usize) {
+    if !looked.fit {
         return false;
     }
-    if !handles_distinct(vs, n) {
+    // Handles that rise stand once.
+    let once = if looked.rise {
+        true
+    } else {
+        handles_distinct(vs, n)
+    };
+    if !once {
         return false;
+    }
+    // One note is held once: no flags, and no copy of the notes.
+    if h < 2 {
+        return true;
     }
     held_distinct(held, h)
 }

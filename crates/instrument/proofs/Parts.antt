@@ -18,7 +18,6 @@ use Rattle.design.specs.Accepted.{numbersFit, floatsFit, designReply, isAccepte
 use Rattle.model.specs.Formed.{framesFit, blockFits}
 use Rattle.model.specs.Types as M
 use Rattle.model.specs.Voices.{handles, hasHandle}
-use Rattle.formed.specs.Check.{risesFrom, modeAgrees}
 
 -- a design that is answered Accepted, and one that is not
 module _ (d : InstrumentDesign) where

@@ -7,6 +7,7 @@ use design::Modulation;
 use design::PlayMode;
 use instrument::Instrument;
 use instrument::Outcome;
+use instrument::Reply;
 
 pub fn nan() -> f32 {
     float32::from_bits(0x7fc0_0000)
@@ -63,16 +64,26 @@ pub fn unison(n: u32, width: f32) -> Instrument {
     start(design(4, PlayMode::Poly, n, width))
 }
 
-// Prints the reply and hands the state on.
-fn told(o: Outcome) -> Instrument {
+// A refusal must give the state back that it was given.
+pub fn unchanged(s: Instrument, state: Instrument) {
+    if !same::same(s, state) {
+        show::changed();
+    }
+}
+
+// Prints the reply to a call on s and hands the state on.
+fn told(s: Instrument, o: Outcome) -> Instrument {
     let reply = o.reply;
     let state = o.state;
     show::reply(reply);
+    if let Reply::Refused(_) = reply {
+        unchanged(s, state);
+    }
     state
 }
 
 pub fn on(s: Instrument, note: u8, velocity: f32, built: bool) -> Instrument {
-    told(s.note_on(note, velocity, built))
+    told(s, s.note_on(note, velocity, built))
 }
 
 // A built note at full velocity.
@@ -81,27 +92,27 @@ pub fn hit(s: Instrument, note: u8) -> Instrument {
 }
 
 pub fn off(s: Instrument, note: u8) -> Instrument {
-    told(s.note_off(note))
+    told(s, s.note_off(note))
 }
 
 pub fn pedal(s: Instrument, down: bool) -> Instrument {
-    told(s.set_sustain(down))
+    told(s, s.set_sustain(down))
 }
 
 pub fn bend(s: Instrument, factor: f32) -> Instrument {
-    told(s.set_bend(factor))
+    told(s, s.set_bend(factor))
 }
 
 pub fn bright(s: Instrument, scale: f32) -> Instrument {
-    told(s.set_brightness(scale))
+    told(s, s.set_brightness(scale))
 }
 
 pub fn release(s: Instrument, handle: u64) -> Instrument {
-    told(s.release(handle))
+    told(s, s.release(handle))
 }
 
 pub fn alloff(s: Instrument) -> Instrument {
-    told(s.all_notes_off())
+    told(s, s.all_notes_off())
 }
 
 pub fn active(s: Instrument, handle: u64) {

@@ -66,10 +66,14 @@ pub fn case(number: u64) {
     form(b"(case ", number);
 }
 
+pub fn refused(n: u8) {
+    form(b"(refused ", n as u64);
+}
+
 pub fn start(reply: DesignReply) {
     match reply {
         DesignReply::Accepted => put(b"(ready)\n"),
-        DesignReply::Refused(n) => form(b"(refused ", n as u64),
+        DesignReply::Refused(n) => refused(n),
     }
 }
 
@@ -88,7 +92,7 @@ pub fn reply(reply: Reply) {
         Reply::Done => put(b"(done)\n"),
         Reply::Released(found) => form(b"(released ", flag(found)),
         Reply::Planned => put(b"(planned)\n"),
-        Reply::Refused(n) => form(b"(refused ", n as u64),
+        Reply::Refused(n) => refused(n),
     }
 }
 
@@ -98,7 +102,7 @@ pub fn answer(answer: Answer) {
         Answer::Voices(n) => form(b"(count ", n as u64),
         Answer::Handle(_) => form(b"(found ", 1),
         Answer::NoHandle => form(b"(found ", 0),
-        Answer::Refused(n) => form(b"(refused ", n as u64),
+        Answer::Refused(n) => refused(n),
     }
 }
 
@@ -130,7 +134,7 @@ fn each_voice(vs: [Voice; 64], n: usize) {
 // The table.
 pub fn voices(s: Instrument) {
     if !s.well_formed() {
-        form(b"(refused ", 1);
+        refused(1);
         return;
     }
     let vs = s.voices;
@@ -190,7 +194,7 @@ fn all_copies(vs: [Voice; 64], n: usize) {
 // Every copy of every voice.
 pub fn copies(s: Instrument) {
     if !s.well_formed() {
-        form(b"(refused ", 1);
+        refused(1);
         return;
     }
     let vs = s.voices;
@@ -204,10 +208,14 @@ fn held_at(held: [Note; 256], i: usize) -> Note {
 }
 
 // A space comes before all but the first.
-fn held_note(note: Note, i: usize) {
+fn gap(i: usize) {
     if i > 0 {
         put(b" ");
     }
+}
+
+fn held_note(note: Note, i: usize) {
+    gap(i);
     decimal(note.0 as u64);
 }
 
@@ -222,7 +230,7 @@ fn each_held(held: [Note; 256], n: usize) {
 // Next handle, pedal, bend, brightness, the phases, the tremolo gain, the open block and the held notes.
 pub fn state(s: Instrument) {
     if !s.well_formed() {
-        form(b"(refused ", 1);
+        refused(1);
         return;
     }
     let held = s.held;
@@ -239,4 +247,64 @@ pub fn state(s: Instrument) {
     put(b" (");
     each_held(held, s.held_count);
     put(b"))\n");
+}
+
+fn listed(value: f32, i: usize) {
+    gap(i);
+    bare(value);
+}
+
+fn each_float(xs: &[f32]) {
+    let mut i: usize = 0;
+    while i < xs.len() {
+        listed(xs[i], i);
+        i += 1;
+    }
+}
+
+// The length of a curve and its numbers.
+pub fn planned(curve: &[f32]) {
+    put(b"(planned");
+    number(curve.len() as u64);
+    put(b" (");
+    each_float(curve);
+    put(b"))\n");
+}
+
+fn ended_at(ended: [u64; 64], i: usize) -> u64 {
+    if i < 64 { ended[i] } else { ended[63] }
+}
+
+fn ended_handle(handle: u64, i: usize) {
+    gap(i);
+    decimal(handle);
+}
+
+fn each_ended(ended: [u64; 64], n: usize) {
+    let mut i: usize = 0;
+    while i < n {
+        ended_handle(ended_at(ended, i), i);
+        i += 1;
+    }
+}
+
+// The frames, the numbers of both sides and the first n handles of the report.
+pub fn mixed(frames: usize, out: &[f32], ended: [u64; 64], n: usize) {
+    put(b"(mixed");
+    number(frames as u64);
+    put(b" (");
+    each_float(out);
+    put(b") (");
+    each_ended(ended, n);
+    put(b"))\n");
+}
+
+// A refusal gave another state back.
+pub fn changed() {
+    put(b"(changed)\n");
+}
+
+// A refusal wrote to lent memory.
+pub fn touched() {
+    put(b"(touched)\n");
 }

@@ -1,21 +1,19 @@
 use Rattle.formed.proofs.Handles.{counted-twice, counted-once}
 use Rattle.formed.proofs.Checks.{handle-of, handles-most}
-use mathlib.Core.Path.{_≡_, refl, ap, sym, _∙_}
-use mathlib.Core.List.{List}
-use Prim.Native.Nat.{ℕ, _≤_, _<_, _-_, _+_, min}
+use mathlib.Core.Path.{_≡_, sym}
+use Prim.Native.Nat.{ℕ, _≤_, _<_, _-_}
 use native.Mathlib.Omega.{arith}
 use borrow.Author.Needs.{needs}
 use borrow.Author.Count.{below-none, below-more}
 use lib.ListN.{length, getD}
 use Rattle.lists.specs.Perms.{times, distinct}
 use Rattle.voices.specs.View.{voicesOf, seenFirst}
-use Rattle.formed.proofs.Checks.{handlesFirst, handle-at, handles-long, handles-least}
-use Rattle.formed.proofs.Handles.{rise-distinct, each-distinct}
+use Rattle.formed.proofs.Checks.{handlesFirst}
+use Rattle.formed.proofs.Handles.{each-distinct}
 use Rattle.formed.proofs.handles_distinct.Statement.{statement}
 use Rattle.formed.proofs.handles_distinct.Tie as tie
 use Rattle.formed.proofs.handles_distinct.Reads as reads
 use Rattle.formed.proofs.handles_distinct.Lts as lts
-use Rattle.formed.proofs.handles_rise.Reads as handles-rise-reads
 use Rattle.formed.proofs.least.Reads as least-reads
 use Rattle.voices.proofs.count_of.Reads as count-of-reads
 
@@ -25,21 +23,13 @@ Inv-loop n vs end i₀ i = (i ≤ end) × ((j : ℕ) → j < i → times (getD (
 abbrev μ-loop : tie.MeasureT-loop
 μ-loop n vs end i₀ i = end - i
 
--- src/lib.rt:160:8
-handles-rise-requires : tie.Need-handles-rise-requires Inv-loop μ-loop
-handles-rise-requires c κs = search needs
-
--- src/lib.rt:161:9
-returns : tie.Need-returns Inv-loop μ-loop
-returns c = sym (rise-distinct _ 0 (sym (c .before .handles-rise .ensures) ∙ c .if1 .taken))
-
 -- src/lib.rt:163:9
 least-requires : tie.Need-least-requires Inv-loop μ-loop
 least-requires c κs = search needs
 
 -- src/lib.rt:165:5
 loop-holds : tie.Need-loop-holds Inv-loop μ-loop
-loop-holds c = (omega arith, λ j p. below-none (λ (j : ℕ). times (getD (handlesFirst (c .before .before .before .args .n) (c .before .before .before .args .t1)) j 0) (handlesFirst (c .before .before .before .args .n) (c .before .before .before .args .t1)) ≤ 1) j p)
+loop-holds c = (omega arith, λ j p. below-none (λ (j : ℕ). times (getD (handlesFirst (c .before .args .n) (c .before .args .t1)) j 0) (handlesFirst (c .before .args .n) (c .before .args .t1)) ≤ 1) j p)
 
 -- src/lib.rt:166:17
 mul-v : tie.Need-mul-v Inv-loop μ-loop
@@ -54,10 +44,10 @@ count-of-requires : tie.Need-count-of-requires Inv-loop μ-loop
 count-of-requires c κs = search needs
 
 -- src/lib.rt:168:13
-returns-2 : tie.Need-returns-2 Inv-loop μ-loop
-returns-2 c =
-    let s = c .before .before .before .before .before .before .before .before in
-    counted-twice (voicesOf (seenFirst (s .args .n) (s .args .t1))) _ _ (c .before .count-of .ensures) (c .if2 .taken)
+returns : tie.Need-returns Inv-loop μ-loop
+returns c =
+    let s = c .before .before .before .before .before .before in
+    counted-twice (voicesOf (seenFirst (s .args .n) (s .args .t1))) _ _ (c .before .count-of .ensures) (c .if1 .taken)
 
 -- src/lib.rt:170:9
 add-i : tie.Need-add-i Inv-loop μ-loop
@@ -72,19 +62,19 @@ loop-again : tie.Need-loop-again Inv-loop μ-loop
 loop-again c =
     let a = c .before .before .before in
     let b = a .before in
-    let s = b .before .before .before .before in
+    let s = b .before .before in
     let l : length (s .args .t1) ≡ 64 = s .good .0 .1 .0 .1 in
     let q = b .before .least .ensures in (
       omega arith,
       below-more (λ (j : ℕ). times (getD (handlesFirst (s .args .n) (s .args .t1)) j 0) (handlesFirst (s .args .n) (s .args .t1)) ≤ 1) (b .loop .i) (b .loop .inv .1)
-          (counted-once (voicesOf (seenFirst (s .args .n) (s .args .t1))) _ _ _ (handle-of (s .args .t1) (s .args .n) (b .before .least .result) (b .loop .i) _ l q (a .loop-test .taken)) (c .before .count-of .ensures) (c .if2 .left)),
+          (counted-once (voicesOf (seenFirst (s .args .n) (s .args .t1))) _ _ _ (handle-of (s .args .t1) (s .args .n) (b .before .least .result) (b .loop .i) _ l q (a .loop-test .taken)) (c .before .count-of .ensures) (c .if1 .left)),
     )
 
 -- src/lib.rt:157:1
-returns-3 : tie.Need-returns-3 Inv-loop μ-loop
-returns-3 c =
+returns-2 : tie.Need-returns-2 Inv-loop μ-loop
+returns-2 c =
     let b = c .before in
-    let s = b .before .before .before .before in
+    let s = b .before .before in
     let l : length (s .args .t1) ≡ 64 = s .good .0 .1 .0 .1 in
     let q = b .before .least .ensures in
     let k = handles-most (s .args .t1) (s .args .n) (b .before .least .result) l q in
@@ -98,15 +88,13 @@ handles-distinct-spec =
     (tie.spec
     Inv-loop
     μ-loop
-    handles-rise-requires
-    returns
     least-requires
     loop-holds
     mul-v
     array-copy-out-v
     count-of-requires
-    returns-2
+    returns
     add-i
     loop-less
     loop-again
-    returns-3)
+    returns-2)

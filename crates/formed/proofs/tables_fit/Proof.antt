@@ -1,6 +1,11 @@
-use mathlib.Core.Path.{_≡_, refl, sym, _∙_}
+use mathlib.Core.Path.{_≡_, _∙_}
+use mathlib.Core.Logic.{⊎-elim}
 use borrow.Author.Tests.{not-true, not-false}
-use Rattle.formed.proofs.Tables.{tables-1, tables-2, tables-3, tables-4, tables-5}
+use Rattle.lists.specs.Perms.{distinct}
+use Rattle.model.specs.Voices.{handles}
+use Rattle.voices.specs.View.{seenFirst, voicesOf}
+use Rattle.formed.proofs.Looking.{looked-once}
+use Rattle.formed.proofs.Tables.{tables-1, tables-2, tables-3, tables-4, tables-5, tables-6}
 use borrow.Author.Needs.{needs}
 use Rattle.formed.proofs.tables_fit.Statement.{statement}
 use Rattle.formed.proofs.tables_fit.Tie as tie
@@ -9,96 +14,113 @@ use Rattle.formed.proofs.tables_fit.Lts as lts
 use Rattle.design.proofs.InstrumentDesign.copies.Reads as copies-reads
 use Rattle.formed.proofs.handles_distinct.Reads as handles-distinct-reads
 use Rattle.formed.proofs.held_distinct.Reads as held-distinct-reads
+use Rattle.formed.proofs.look.Reads as look-reads
 use Rattle.formed.proofs.mode_fits.Reads as mode-fits-reads
-use Rattle.formed.proofs.voices_fit.Reads as voices-fit-reads
-use Rattle.voices.proofs.count_of.Reads as count-of-reads
 
--- src/lib.rt:257:13
-count-of-requires : tie.Need-count-of-requires
-count-of-requires c κs = search needs
-
--- src/lib.rt:258:13
-cast-if1 : tie.Need-cast-if1
-cast-if1 c = search needs
-
--- src/lib.rt:259:13
-returns : tie.Need-returns
-returns c =
-    let b = c .before .before in
-    tables-1 _ _ _ _ _ _ _ (b .count-of .ensures) (c .if1 .taken)
-
--- src/lib.rt:261:13
-mode-fits-requires : tie.Need-mode-fits-requires
-mode-fits-requires c κs = search needs
-
--- src/lib.rt:262:13
-returns-2 : tie.Need-returns-2
-returns-2 c =
-    let d = c .before .before in
-    let b = d .before .before in
-    tables-2 _ _ _ _ _ _ _ (b .count-of .ensures) (d .if1 .left) _ (c .before .mode-fits .ensures) (not-true _ (c .if2 .taken))
-
--- src/lib.rt:264:49
+-- src/lib.rt:187:36
 copies-requires : tie.Need-copies-requires
 copies-requires c κs = search needs
 
--- src/lib.rt:264:49
-cast-voices-fit : tie.Need-cast-voices-fit
-cast-voices-fit c = search needs
+-- src/lib.rt:187:36
+cast-look : tie.Need-cast-look
+cast-look c = search needs
 
--- src/lib.rt:264:13
-voices-fit-requires : tie.Need-voices-fit-requires
-voices-fit-requires c κs = search needs
+-- src/lib.rt:187:9
+look-requires : tie.Need-look-requires
+look-requires c κs = search needs
 
--- src/lib.rt:265:13
+-- src/lib.rt:188:9
+cast-if1 : tie.Need-cast-if1
+cast-if1 c = search needs
+
+-- src/lib.rt:189:9
+returns : tie.Need-returns
+returns c =
+    let l = c .before .before .before in
+    tables-1 _ _ _ _ _ _ _ (l .before .copies .ensures) _ (l .look .ensures) (c .if1 .taken)
+
+-- src/lib.rt:191:9
+mode-fits-requires : tie.Need-mode-fits-requires
+mode-fits-requires c κs = search needs
+
+-- src/lib.rt:192:9
+returns-2 : tie.Need-returns-2
+returns-2 c =
+    let d = c .before .before in
+    let l = d .before .before .before in
+    tables-2 _ _ _ _ _ _ _ (l .before .copies .ensures) _ (l .look .ensures) (d .if1 .left) _ (c .before .mode-fits .ensures) (not-true _ (c .if2 .taken))
+
+-- src/lib.rt:195:9
 returns-3 : tie.Need-returns-3
 returns-3 c =
-    let f = c .before .before .before in
+    let f = c .before .before in
     let d = f .before .before in
-    let b = d .before .before in
-    tables-3 _ _ _ _ _ _ _ (b .count-of .ensures) (d .if1 .left) _ (f .before .mode-fits .ensures) (not-false _ (f .if2 .left)) _ (c .before .before .copies .ensures) _ (c .before .voices-fit .ensures) (not-true _ (c .if3 .taken))
+    let l = d .before .before .before in
+    tables-3 _ _ _ _ _ _ _ (l .before .copies .ensures) _ (l .look .ensures) (d .if1 .left) _ (f .before .mode-fits .ensures) (not-false _ (f .if2 .left)) (not-true _ (c .if3 .taken))
 
--- src/lib.rt:267:13
+-- src/lib.rt:197:47
 handles-distinct-requires : tie.Need-handles-distinct-requires
 handles-distinct-requires c κs = search needs
 
--- src/lib.rt:268:13
+-- where the handles rise they are not compared
+once-is : (j : tie.Joined4) → let s = j .before .before .before .before .before .before .before .before .before .before in
+    j .if4 .once ≡ distinct (handles (voicesOf (seenFirst (s .args .n) (s .args .vs))))
+once-is j =
+    let l = j .before .before .before .before .before .before .before .before in
+    let s = l .before .before in
+    ⊎-elim
+    (λ w. w .1 ∙ looked-once (s .args .next) (l .before .copies .result) _ (seenFirst (s .args .n) (s .args .vs)) (l .look .ensures) (w .0 .taken))
+    (λ w. w .2 ∙ w .1 .ensures)
+    (j .if4 .came)
+
+-- src/lib.rt:199:9
 returns-4 : tie.Need-returns-4
 returns-4 c =
-    let g = c .before .before in
-    let f = g .before .before .before in
+    let j = c .before in
+    let g = j .before in
+    let f = g .before .before in
     let d = f .before .before in
-    let b = d .before .before in
-    tables-4 _ _ _ _ _ _ _ (b .count-of .ensures) (d .if1 .left) _ (f .before .mode-fits .ensures) (not-false _ (f .if2 .left)) _ (g .before .before .copies .ensures) _ (g .before .voices-fit .ensures) (not-false _ (g .if3 .left)) _ (c .before .handles-distinct .ensures) (not-true _ (c .if4 .taken))
+    let l = d .before .before .before in
+    tables-4 _ _ _ _ _ _ _ (l .before .copies .ensures) _ (l .look .ensures) (d .if1 .left) _ (f .before .mode-fits .ensures) (not-false _ (f .if2 .left)) (not-false _ (g .if3 .left)) _ (once-is j) (not-true _ (c .if5 .taken))
 
--- src/lib.rt:270:9
+-- src/lib.rt:202:9
+returns-5 : tie.Need-returns-5
+returns-5 c =
+    let e = c .before in
+    let g = e .before .before in
+    let f = g .before .before in
+    let d = f .before .before in
+    let l = d .before .before .before in
+    tables-6 _ _ _ _ _ _ _ (l .before .copies .ensures) _ (l .look .ensures) (d .if1 .left) _ (f .before .mode-fits .ensures) (not-false _ (f .if2 .left)) (not-false _ (g .if3 .left)) _ (once-is (e .before)) (not-false _ (e .if5 .left)) (c .if6 .taken)
+
+-- src/lib.rt:204:5
 held-distinct-requires : tie.Need-held-distinct-requires
 held-distinct-requires c κs = search needs
 
--- src/lib.rt:248:5
-returns-5 : tie.Need-returns-5
-returns-5 c =
-    let h = c .before in
-    let g = h .before .before in
-    let f = g .before .before .before in
+-- src/lib.rt:176:1
+returns-6 : tie.Need-returns-6
+returns-6 c =
+    let e = c .before .before in
+    let g = e .before .before in
+    let f = g .before .before in
     let d = f .before .before in
-    let b = d .before .before in
-    tables-5 _ _ _ _ _ _ _ (b .count-of .ensures) (d .if1 .left) _ (f .before .mode-fits .ensures) (not-false _ (f .if2 .left)) _ (g .before .before .copies .ensures) _ (g .before .voices-fit .ensures) (not-false _ (g .if3 .left)) _ (h .before .handles-distinct .ensures) _ (not-false _ (h .if4 .left)) (c .held-distinct .ensures)
+    let l = d .before .before .before in
+    tables-5 _ _ _ _ _ _ _ (l .before .copies .ensures) _ (l .look .ensures) (d .if1 .left) _ (f .before .mode-fits .ensures) (not-false _ (f .if2 .left)) (not-false _ (g .if3 .left)) _ (once-is (e .before)) _ (not-false _ (e .if5 .left)) (c .held-distinct .ensures)
 
 pub tables-fit-spec : {M : Type 1} → statement M
 tables-fit-spec =
     tie.close
     (tie.spec
-    count-of-requires
+    copies-requires
+    cast-look
+    look-requires
     cast-if1
     returns
     mode-fits-requires
     returns-2
-    copies-requires
-    cast-voices-fit
-    voices-fit-requires
     returns-3
     handles-distinct-requires
     returns-4
+    returns-5
     held-distinct-requires
-    returns-5)
+    returns-6)

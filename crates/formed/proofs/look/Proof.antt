@@ -1,0 +1,87 @@
+use mathlib.Core.Path.{_≡_, refl}
+use Prim.Native.Nat.{_≤_, _-_}
+use native.Mathlib.Omega.{arith}
+use lib.ListN.{length}
+use borrow.Author.Needs.{needs}
+use Rattle.formed.specs.Check.{lookStart}
+use Rattle.formed.proofs.Looking.{Looking, looking-start, looking-more, looking-end}
+use Rattle.formed.proofs.look.Statement.{statement}
+use Rattle.formed.proofs.look.Tie as tie
+use Rattle.formed.proofs.look.Reads as reads
+use Rattle.formed.proofs.look.Lts as lts
+use Rattle.formed.proofs.least.Reads as least-reads
+use Rattle.formed.proofs.look_at.Reads as look-at-reads
+
+abbrev Inv-loop : tie.InvT-loop
+Inv-loop n next copies vs end looked₀ i₀ looked i = (i ≤ end) × Looking next copies vs end looked i
+
+abbrev μ-loop : tie.MeasureT-loop
+μ-loop n next copies vs end looked₀ i₀ looked i = end - i
+
+-- src/lib.rt:100:9
+least-requires : tie.Need-least-requires Inv-loop μ-loop
+least-requires c κs = search needs
+
+-- src/lib.rt:108:5
+loop-holds : tie.Need-loop-holds Inv-loop μ-loop
+unfolding lookStart
+loop-holds c = (omega arith, looking-start _ _ _ _ _ refl)
+
+-- src/lib.rt:109:34
+mul-look-at : tie.Need-mul-look-at Inv-loop μ-loop
+mul-look-at c = omega arith
+
+-- src/lib.rt:109:34
+array-copy-out-look-at : tie.Need-array-copy-out-look-at Inv-loop μ-loop
+array-copy-out-look-at c = search needs
+
+-- src/lib.rt:109:9
+look-at-requires : tie.Need-look-at-requires Inv-loop μ-loop
+look-at-requires c κs =
+    let b = c .before .before in
+    let m = b .before .least .ensures in
+    let few = b .loop .inv .1 .few in
+    let t = c .before .loop-test .taken in
+    omega arith
+
+-- src/lib.rt:110:9
+add-i : tie.Need-add-i Inv-loop μ-loop
+add-i c = omega arith
+
+-- src/lib.rt:108:5
+loop-less : tie.Need-loop-less Inv-loop μ-loop
+loop-less c = omega arith
+
+-- src/lib.rt:108:5
+loop-again : tie.Need-loop-again Inv-loop μ-loop
+loop-again c =
+    let b = c .before .before .before in
+    let s = b .before .before in
+    let l : length (s .args .t1) ≡ 64 = s .good .0 .1 .0 .1 in
+    let m = b .before .least .ensures in
+    let t = c .before .before .loop-test .taken in
+    (omega arith, looking-more _ _ (s .args .t1) (b .before .least .result) _ _ _ _ (omega arith) t (b .loop .inv .1) (c .look-at .ensures))
+
+-- src/lib.rt:97:1
+returns : tie.Need-returns Inv-loop μ-loop
+returns c =
+    let b = c .before in
+    let s = b .before .before in
+    let l : length (s .args .t1) ≡ 64 = s .good .0 .1 .0 .1 in
+    looking-end _ _ (s .args .t1) _ _ _ _ l (b .before .least .ensures) (c .loop-test .left) (b .loop .inv .1)
+
+pub look-spec : {M : Type 1} → statement M
+look-spec =
+    tie.close
+    (tie.spec
+    Inv-loop
+    μ-loop
+    least-requires
+    loop-holds
+    mul-look-at
+    array-copy-out-look-at
+    look-at-requires
+    add-i
+    loop-less
+    loop-again
+    returns)

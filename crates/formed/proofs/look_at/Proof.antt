@@ -1,0 +1,57 @@
+use native.Mathlib.Omega.{arith}
+use mathlib.Core.Bool.{not}
+use Rattle.lists.specs.Count.{oneIf-le}
+use Rattle.formed.proofs.Looking.{look-one}
+use borrow.Author.Needs.{needs}
+use Rattle.formed.proofs.look_at.Statement.{statement}
+use Rattle.formed.proofs.look_at.Tie as tie
+use Rattle.formed.proofs.look_at.Reads as reads
+use Rattle.formed.proofs.look_at.Lts as lts
+use Rattle.formed.proofs.both.Reads as both-reads
+use Rattle.formed.proofs.one_if.Reads as one-if-reads
+use Rattle.formed.proofs.voice_fits.Reads as voice-fits-reads
+
+-- src/lib.rt:86:9
+voice-fits-requires : tie.Need-voice-fits-requires
+voice-fits-requires c κs = search needs
+
+-- src/lib.rt:87:38
+one-if-requires : tie.Need-one-if-requires
+one-if-requires c κs = search needs
+
+-- src/lib.rt:87:20
+add-sounding : tie.Need-add-sounding
+add-sounding c =
+    let s = c .before .before .before .before in
+    let few = s .pre in
+    let e = c .before .one-if .ensures in
+    let one = oneIf-le (not (s .args .v .releasing)) in
+    omega (arith, few, e, one)
+
+-- src/lib.rt:90:14
+both-requires : tie.Need-both-requires
+both-requires c κs = search needs
+
+-- src/lib.rt:91:15
+both-requires-2 : tie.Need-both-requires-2
+both-requires-2 c κs = search needs
+
+-- src/lib.rt:82:1
+returns : tie.Need-returns
+returns c =
+    let b = c .before .before .before in
+    let k = b .before .before in
+    let f = k .before .before in
+    let s = f .before in
+    look-one (s .args .next) (s .args .copies) (s .args .before) (s .args .v) _ _ _ _ (k .one-if .ensures) (f .voice-fits .ensures) (b .both .ensures) (c .both2 .ensures)
+
+pub look-at-spec : {M : Type 1} → statement M
+look-at-spec =
+    tie.close
+    (tie.spec
+    voice-fits-requires
+    one-if-requires
+    add-sounding
+    both-requires
+    both-requires-2
+    returns)

@@ -1,0 +1,6 @@
+mod Spelt
+mod Decimals
+mod Words
+mod Literals
+mod Puts
+mod Spells
