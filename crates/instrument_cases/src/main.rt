@@ -1,4 +1,4 @@
-// Cases of instrument calls, written by hand, a line for each reply. `(case N)` starts a case: 101 to 164 are
+// Cases of instrument calls, a line for each reply. `(case N)` starts a case: 101 to 164 are
 // refusals, 201 on Poly, 301 on Mono, 401 on the pedal, 501 on bend and brightness. In all these every level is 0.
 // 601 on add Plan and Mix with the numbers that they write: blocks and their refusals; 621 on levels that differ, and
 // so stealing by level and voices that end; 641 on modulation, glides and unison. After a refusal the state must be

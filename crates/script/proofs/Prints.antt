@@ -18,7 +18,8 @@ use Rattle.voice.specs.declared.Voice.{Voice}
 use Rattle.voice.specs.View.{shown, seen}
 use Rattle.voice.proofs.Sizes.{pastEnd}
 use Rattle.voices.specs.View.{seenFirst, voicesOf}
-use Rattle.script.specs.Answers.{rowText, rowsText, tableText, oneText, voicesWord, startedWord, decimalPart, wordPart, openRow, space, close, closeLine}
+use Rattle.forms.specs.Forms.{decimalPart, wordPart, space, close}
+use Rattle.script.specs.Answers.{rowText, rowsText, tableText, oneText, voicesWord, startedWord, openRow, closeLine}
 use Rattle.script.specs.Lines.{Puts, Printed}
 use Rattle.text.specs.Text.{figures, decimalText, glyphs, wordText}
 use Rattle.lists.specs.Count.{oneIf}

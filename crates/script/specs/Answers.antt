@@ -3,7 +3,7 @@ use mathlib.Core.List.{List, [], _∷_, _++_, flatMap}
 use Prim.Native.Nat.{ℕ}
 use lib.Ieee.{toBits, binary32}
 use Rattle.lists.specs.Count.{oneIf}
-use Rattle.text.specs.Text.{decimalText, wordText}
+use Rattle.forms.specs.Forms.{space, close, decimalPart, wordPart}
 use Rattle.model.specs.Types as model
 
 -- ---- the words, in ASCII
@@ -52,25 +52,9 @@ voicesWord = 40 ∷ 118 ∷ 111 ∷ 105 ∷ 99 ∷ 101 ∷ 115 ∷ []
 abbrev pub openRow : List ℕ
 openRow = 32 ∷ 40 ∷ []
 
--- ` `
-abbrev pub space : List ℕ
-space = 32 ∷ []
-
--- `)`
-abbrev pub close : List ℕ
-close = 41 ∷ []
-
 -- `)`
 abbrev pub closeLine : List ℕ
 closeLine = 41 ∷ 10 ∷ []
-
--- ---- a number behind the word that leads to it
-
-abbrev pub decimalPart : List ℕ → ℕ → List ℕ
-decimalPart lead n = lead ++ decimalText n
-
-abbrev pub wordPart : List ℕ → ℕ → List ℕ
-wordPart lead n = lead ++ wordText n
 
 -- an answer of one number
 abbrev pub oneText : List ℕ → ℕ → List ℕ
