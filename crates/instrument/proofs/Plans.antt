@@ -17,7 +17,8 @@ use Rattle.stream.specs.declared.UnisonCopy.{UnisonCopy}
 use Rattle.stream.specs.Pitch.{bent, cutTo}
 use Rattle.envelope.specs.Start.{rateFits}
 use Rattle.design.specs.declared.InstrumentDesign.{InstrumentDesign}
-use Rattle.design.specs.Accepted.{numbersFit, floatsFit, isAccepted, modulated, copiesOf}
+use Rattle.design.specs.Accepted.{isAccepted, modulated, copiesOf}
+use Rattle.design.proofs.Limits.{copies-most}
 use Rattle.model.specs.Types as M
 use Rattle.model.specs.Changes.{moved, blocked}
 use Rattle.model.specs.Formed.{handleFits, copiesFit, stageFits, framesFit, wellFormed}
@@ -57,23 +58,6 @@ frames-most d n e = by (modulated (d .modulation)) (leb-true n _ (both (leb 1 n)
 pub frames-float : (n : ℕ) → n ≤ 1024 → T (inFloat binary32 (pos n))
 unfolding inFloat
 frames-float n h = le→leb n (2 ^ 24) (omega arith)
-
-module _ (d : InstrumentDesign) (e : isAccepted d ≡ true) where
-  numbers : numbersFit d ≡ true
-  unfolding isAccepted
-  numbers = both (numbersFit d) (floatsFit d) e .0
-
-  pub rate-fits : rateFits (d .«sample_rate») ≡ true
-  unfolding numbersFit
-  rate-fits = both (rateFits (d .«sample_rate»)) _ numbers .0
-
-  copies-most : copiesOf d ≤ 8
-  unfolding numbersFit copiesOf
-  copies-most =
-      let a = both (rateFits (d .«sample_rate»)) _ numbers in
-      let b = both (leb 1 (d .«max_voices»)) _ (a .1) in
-      let u = leb-true (d .unison) 8 (both (leb (d .«max_voices») 32) (leb (d .unison) 8) (b .1) .1) in
-      chosen (λ (k : ℕ). k ≤ 8) (eqb (d .unison) 0) 1 (d .unison) (λ _. omega arith) (λ _. u)
 
 -- every voice of a well formed table has the design's copies
 copies-even : (next k : ℕ) (l : List Seen) → all (voiceFits next k) l ≡ true → copiesIn (voicesOf l) ≡ length l * k

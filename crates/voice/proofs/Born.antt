@@ -15,6 +15,7 @@ use Rattle.envelope.specs.Gates.{gatedOn}
 use Rattle.stream.specs.declared.UnisonCopy.{UnisonCopy}
 use Rattle.design.specs.declared.InstrumentDesign.{InstrumentDesign}
 use Rattle.design.specs.Accepted.{numbersFit, floatsFit, isAccepted, copiesOf}
+use Rattle.design.proofs.Limits.{copies-most}
 use Rattle.model.specs.Types.{Model}
 use Rattle.model.specs.Voices.{firstCopies, newCopies, newEnvelope, newVoice}
 use Rattle.voice.specs.View.{Seen}
@@ -24,14 +25,6 @@ unfolding newEnv
 ready a d s r rate e f = rw (e, f)
 
 module _ (d : InstrumentDesign) (ok : isAccepted d ≡ true) where
-  few : copiesOf d ≤ 8
-  unfolding isAccepted numbersFit copiesOf
-  few =
-      let n = both (numbersFit d) (floatsFit d) ok .0 in
-      let v = both (rateFits (d .«sample_rate»)) (leb 1 (d .«max_voices») && (leb (d .«max_voices») 32 && leb (d .unison) 8)) n .1 in
-      let u : leb (d .unison) 8 ≡ true = both (leb (d .«max_voices») 32) (leb (d .unison) 8) (both (leb 1 (d .«max_voices»)) _ v .1) .1 in
-      chosen (λ (k : ℕ). k ≤ 8) (eqb (d .unison) 0) 1 (d .unison) (λ _. omega arith) (λ _. leb-true _ _ u)
-
   starts : gatedOn (newEnv (d .amp .a) (d .amp .d) (d .amp .s) (d .amp .r) (d .«sample_rate») .env) ≡ newEnvelope d
   unfolding isAccepted numbersFit floatsFit newEnvelope
   starts =
@@ -55,6 +48,6 @@ module _ (d : InstrumentDesign) (ok : isAccepted d ≡ true) where
       }) (record { voice = newVoice m note velocity; count = copiesOf d })
   unfolding newVoice newCopies
   born m note velocity n copies e f g =
-      let h = few in
+      let h = copies-most d ok in
       let k : n ≡ copiesOf d = omega arith in
       rw (g, k, e, starts)

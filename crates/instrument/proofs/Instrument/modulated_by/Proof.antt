@@ -1,5 +1,6 @@
 use mathlib.Core.Path.{sym, _∙_}
-use Rattle.instrument.proofs.Plans.{frames-most, rate-fits, modulated-on, modulated-off}
+use Rattle.design.proofs.Limits.{rate-fits}
+use Rattle.instrument.proofs.Plans.{frames-most, modulated-on, modulated-off}
 use borrow.Author.Needs.{needs}
 use Rattle.instrument.proofs.Instrument.modulated_by.Statement.{statement}
 use Rattle.instrument.proofs.Instrument.modulated_by.Tie as tie
