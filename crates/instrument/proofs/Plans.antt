@@ -10,19 +10,18 @@ use lib.Dec.{T, leb, eqb, le→leb}
 use lib.Ieee.{Float, binary32, mul, lt, inFloat}
 use lib.IntN.{pos}
 use lib.ListN.{length, length-map, length-take}
-use Rattle.lists.specs.Choose.{both, cond-true, cond-false, chosen}
+use Rattle.lists.specs.Choose.{both, cond-true, cond-false}
 use Rattle.lists.specs.All.{all}
 use Rattle.float32.specs.Numbers.{zero as +0}
 use Rattle.stream.specs.declared.UnisonCopy.{UnisonCopy}
 use Rattle.stream.specs.Pitch.{bent, cutTo}
-use Rattle.envelope.specs.Start.{rateFits}
 use Rattle.design.specs.declared.InstrumentDesign.{InstrumentDesign}
 use Rattle.design.specs.Accepted.{isAccepted, modulated, copiesOf}
 use Rattle.design.proofs.Limits.{copies-most}
 use Rattle.model.specs.Types as M
 use Rattle.model.specs.Changes.{moved, blocked}
 use Rattle.model.specs.Formed.{handleFits, copiesFit, stageFits, framesFit, wellFormed}
-use Rattle.model.specs.Voices.{withVoice, withCopies, copiesIn}
+use Rattle.model.specs.Voices.{withCopies, copiesIn}
 use Rattle.model.specs.Plan.{vibratoFactor, filterFactor, tremoloGain, phaseAfter, wobbled, applied, modulatedBy, opened, planOf}
 use Rattle.model.specs.Step.{noBlock, blockOpen, blockMissing, handlesSpent, refusal, lentTo, accepted, step}
 use Rattle.model.proofs.Laws.{modulated-copies}

@@ -8,6 +8,7 @@ use native.Mathlib.Nat.{zero-add, suc-add}
 use lib.ListN.{length, take, drop, set, replicate, length-set}
 use lib.Seq.{take-suc-set, drop-set-lt, drop-drop}
 use lib.Ieee.{Float, binary32, mul}
+use Rattle.lists.specs.Parts.{rest-on, drop-replicate}
 use Rattle.float32.specs.Numbers.{zero as +0}
 use Rattle.envelope.specs.declared.EnvGen.{EnvGen}
 use Rattle.envelope.specs.Ticks.{ticked}
@@ -26,17 +27,6 @@ pub levels-add : (g t : Float) (a k : ℕ) (e : EnvGen) → levels g t (a + k) e
 unfolding levels aged
 levels-add g t zero k e = rw zero-add
 levels-add g t (suc a) k e = rw (suc-add, levels-add g t a k (ticked e))
-
--- what agrees from a on agrees from b on
-rest-on : {A : Type 0} (a b : ℕ) (xs ys : List A) → a ≤ b → drop a xs ≡ drop a ys → drop b xs ≡ drop b ys
-rest-on a b xs ys h e =
-    let k : a + (b - a) ≡ b = omega arith in
-    rw k at (sym (drop-drop (b - a) a xs) ∙ ap (drop (b - a)) e ∙ drop-drop (b - a) a ys)
-
-zeros-left : {A : Type 0} (n k : ℕ) (a : A) → drop n (replicate k a) ≡ replicate (k - n) a
-zeros-left zero k a = let z : k - 0 ≡ k = omega arith in rw z
-zeros-left (suc n) zero a = let z : 0 - suc n ≡ 0 = omega arith in rw z
-zeros-left (suc n) (suc k) a = let z : suc k - suc n ≡ k - n = omega arith in rw z (zeros-left n k a)
 
 module _ (from m : ℕ) where
   pub within-start : (old : List Float) → from ≤ m → length old ≡ 64 → Within from m old from
@@ -90,6 +80,6 @@ module _ (g t : Float) where
       record {
         env = rw z at (d .env);
         numbers = rw (z, h) at (d .numbers);
-        rest = rw h at (d .rest ∙ zeros-left n 64 +0);
+        rest = rw h at (d .rest ∙ drop-replicate n 64 +0);
         size = l;
       }

@@ -8,6 +8,7 @@ use lib.ListN.{length, drop, getD}
 use Rattle.lists.specs.Prefix.{drop-more}
 use Rattle.lists.specs.Choose.{both}
 use Rattle.lists.specs.Count.{oneIf, count}
+use Rattle.lists.specs.Places.{kept}
 
 module _ {A : Type 0} (p : A → Bool) where
   abbrev pub all : List A → Bool
@@ -50,6 +51,17 @@ module _ {A : Type 0} (p q : A → Bool) where
       by true false true d h = refl
       by true false false d h = refl
       by false b c d h = refl
+
+  -- what all pass is passed by those that are kept
+  pub all-kept : (xs : List A) → all p xs ≡ true → all p (kept q xs) ≡ true
+  all-kept [] e = refl
+  all-kept (x ∷ xs) e =
+      let h = both (p x) (all p xs) e in
+      by (q x) refl (h .0) (all-kept xs (h .1))
+    where
+      by : (b : Bool) → q x ≡ b → p x ≡ true → all p (kept q xs) ≡ true → all p (kept q (x ∷ xs)) ≡ true
+      by true f g ih = rw (f, g) ih
+      by false f g ih = rw f ih
 
 module _ {A B : Type 0} where
   pub all-map : (p : B → Bool) (f : A → B) (xs : List A) → all p (map f xs) ≡ all (λ (a : A). p (f a)) xs

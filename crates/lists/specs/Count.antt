@@ -4,7 +4,7 @@ use mathlib.Core.Bool.{Bool, true, false}
 use mathlib.Core.List.{List, [], _∷_, _++_, map}
 use Prim.Native.Nat.{ℕ, zero, suc, _+_, _≤_, _<_}
 use native.Mathlib.Omega.{arith}
-use lib.ListN.{length, getD, take}
+use lib.ListN.{length, getD, set, take}
 use Rattle.lists.specs.Prefix.{take-more}
 
 abbrev pub oneIf : Bool → ℕ
@@ -32,6 +32,12 @@ module _ {A : Type 0} where
   count-at d p [] j h e = let z : ⊥ = omega arith in absurd z
   count-at d p (x ∷ xs) zero h e = rw e (omega arith)
   count-at d p (x ∷ xs) (suc j) h e = let q = count-at d p xs j (omega arith) e in omega arith
+
+  -- one element stored over another
+  pub count-set : (p : A → Bool) (d : A) (xs : List A) (k : ℕ) (a : A) → k < length xs → count p (set xs k a) + oneIf (p (getD xs k d)) ≡ count p xs + oneIf (p a)
+  count-set p d [] k a h = let z : ⊥ = omega arith in absurd z
+  count-set p d (x ∷ xs) zero a h = omega arith
+  count-set p d (x ∷ xs) (suc k) a h = let q = count-set p d xs k a (omega arith) in omega arith
 
   pub count-all : (xs : List A) → count (λ (a : A). true) xs ≡ length xs
   count-all [] = refl

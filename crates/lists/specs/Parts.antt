@@ -1,11 +1,12 @@
--- A list written part by part: what a part that was lent and came back makes of the whole, and lists that are joined of one list for each element.
+-- A list written part by part: what a part that was lent and came back makes of the whole, parts of a part, one list parted in two ways,
+-- and lists that are joined of one list for each element.
 use mathlib.Core.Path.{_≡_, refl, ap, sym, _∙_}
 use mathlib.Core.List.{List, [], _∷_, _++_, flatMap, append-assoc, append-nil}
 use Prim.Native.Nat.{ℕ, zero, suc, _+_, _-_, _*_, _≤_, _<_}
 use native.Mathlib.Nat.{mul-suc}
 use native.Mathlib.Omega.{arith}
-use lib.ListN.{length, take, drop, getD, length-append, length-take, length-drop}
-use lib.Seq.{take-at}
+use lib.ListN.{length, take, drop, getD, set, replicate, length-append, length-take, length-drop, length-set}
+use lib.Seq.{take-at, take-take, drop-drop, drop-cons, drop-set-lt, getD-set-same}
 use Rattle.lists.specs.Prefix.{take-more}
 
 module _ {A : Type 0} where
@@ -23,6 +24,72 @@ module _ {A : Type 0} where
       rw (← append-assoc (take at xs) ys (drop k (drop at xs)))
       (take-at (take at xs ++ ys) (drop k (drop at xs)) (at + k) (simp (length-append, length-take) (omega arith)))
 
+module _ {A : Type 0} where
+  -- a part of a front is that part of the whole
+  pub part-take : (a m n : ℕ) (xs : List A) → a + m ≤ n → take m (drop a (take n xs)) ≡ take m (drop a xs)
+  part-take zero m n xs h = take-take m n xs (omega arith)
+  part-take (suc a) m zero xs h = let z : ⊥ = omega arith in absurd z
+  part-take (suc a) m (suc n) [] h = refl
+  part-take (suc a) m (suc n) (x ∷ xs) h = part-take a m n xs (omega arith)
+
+  pub part-replicate : (a m n : ℕ) (x : A) → a + m ≤ n → take m (drop a (replicate n x)) ≡ replicate m x
+  part-replicate zero zero n x h = refl
+  part-replicate zero (suc m) zero x h = let z : ⊥ = omega arith in absurd z
+  part-replicate zero (suc m) (suc n) x h = ap (_∷_ x) (part-replicate zero m n x (omega arith))
+  part-replicate (suc a) m zero x h = let z : ⊥ = omega arith in absurd z
+  part-replicate (suc a) m (suc n) x h = part-replicate a m n x (omega arith)
+
+  pub drop-replicate : (n k : ℕ) (a : A) → drop n (replicate k a) ≡ replicate (k - n) a
+  drop-replicate zero k a = let z : k - 0 ≡ k = omega arith in rw z
+  drop-replicate (suc n) zero a = let z : 0 - suc n ≡ 0 = omega arith in rw z
+  drop-replicate (suc n) (suc k) a = let z : suc k - suc n ≡ k - n = omega arith in rw z (drop-replicate n k a)
+
+  -- what agrees from a on agrees from b on
+  pub rest-on : (a b : ℕ) (xs ys : List A) → a ≤ b → drop a xs ≡ drop a ys → drop b xs ≡ drop b ys
+  rest-on a b xs ys h e =
+      let k : a + (b - a) ≡ b = omega arith in
+      rw k at (sym (drop-drop (b - a) a xs) ∙ ap (drop (b - a)) e ∙ drop-drop (b - a) a ys)
+
+  -- what stands from a place on after a store there
+  pub drop-set : (l : List A) (k : ℕ) (x : A) → k < length l → drop k (set l k x) ≡ x ∷ drop (suc k) l
+  drop-set l k x h =
+      let n = length-set l k x in
+      let q : k < length (set l k x) = omega arith in
+      drop-cons (set l k x) k x q
+      ∙ ap (λ (y : A). y ∷ drop (suc k) (set l k x)) (getD-set-same l k x x h)
+      ∙ ap (_∷_ x) (drop-set-lt (suc k) l k x (omega arith))
+
+  pub no-length : (l : List A) → length l ≡ 0 → l ≡ []
+  no-length [] e = refl
+  no-length (x ∷ l) e = let z : ⊥ = omega arith in absurd z
+
+  pub length-snoc : (xs : List A) (a : A) (k : ℕ) → length xs ≡ k → length (xs ++ (a ∷ [])) ≡ suc k
+  length-snoc xs a k e = let b = length-append xs (a ∷ []) in omega arith
+
+  pub head-same : {x y : A} {xs ys : List A} → x ∷ xs ≡ y ∷ ys → x ≡ y
+  head-same e = cc
+
+  pub tail-same : {x y : A} {xs ys : List A} → x ∷ xs ≡ y ∷ ys → xs ≡ ys
+  tail-same e = cc
+
+  -- of two ways to part one list, those with fronts of one length are the same
+  pub parts-same : (xs ys cs ds : List A) → length xs ≡ length ys → xs ++ cs ≡ ys ++ ds → (xs ≡ ys) × (cs ≡ ds)
+  parts-same [] [] cs ds h e = (refl, e)
+  parts-same [] (y ∷ ys) cs ds h e = let z : ⊥ = omega arith in absurd z
+  parts-same (x ∷ xs) [] cs ds h e = let z : ⊥ = omega arith in absurd z
+  parts-same (x ∷ xs) (y ∷ ys) cs ds h e =
+      let q = parts-same xs ys cs ds (omega arith) (tail-same e) in
+      (let f : x ≡ y = head-same e in let g = q .0 in cc, q .1)
+
+  -- a longer front goes on where the shorter ends
+  pub front-on : (xs ys cs ds : List A) → length ys ≤ length xs → xs ++ cs ≡ ys ++ ds → xs ≡ ys ++ drop (length ys) xs
+  front-on xs [] cs ds h e = refl
+  front-on [] (y ∷ ys) cs ds h e = let z : ⊥ = omega arith in absurd z
+  front-on (x ∷ xs) (y ∷ ys) cs ds h e =
+      let q = front-on xs ys cs ds (omega arith) (tail-same e) in
+      let f : x ≡ y = head-same e in
+      cc
+
 module _ {A B : Type 0} (f : A → List B) where
   pub flat-append : (xs ys : List A) → flatMap f (xs ++ ys) ≡ flatMap f xs ++ flatMap f ys
   unfolding flatMap
@@ -32,6 +99,15 @@ module _ {A B : Type 0} (f : A → List B) where
   pub flat-more : (xs : List A) (i : ℕ) (d : A) → i < length xs → flatMap f (take (i + 1) xs) ≡ flatMap f (take i xs) ++ f (getD xs i d)
   unfolding flatMap
   flat-more xs i d h = rw (take-more xs i d, flat-append (take i xs) (getD xs i d ∷ []), append-nil)
+
+  pub length-flat : (n : ℕ) → ((a : A) → length (f a) ≡ n) → (xs : List A) → length (flatMap f xs) ≡ n * length xs
+  unfolding flatMap
+  length-flat n h [] = omega arith
+  length-flat n h (x ∷ xs) =
+      let a = length-append (f x) (flatMap f xs) in
+      let b = length-flat n h xs in
+      let c = h x in
+      rw mul-suc (omega arith)
 
 -- a part of k further leaves one part less
 pub parts-left : (at k n j l : ℕ) → j < n → at + k * (n - j) ≡ l → at + k + k * (n - (j + 1)) ≡ l

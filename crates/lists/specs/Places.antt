@@ -10,6 +10,7 @@ use borrow.Author.Tests.{lt-ltb, le-ltb}
 use lib.ListN.{length, getD, take, drop, length-take}
 use Rattle.lists.specs.Count.{oneIf, count}
 use Rattle.lists.specs.Prefix.{take-more, drop-more}
+use Rattle.lists.specs.Choose.{chosen}
 
 module _ {A : Type 0} where
   -- the place of the first that passes, and the length where none does
@@ -91,6 +92,18 @@ module _ {A : Type 0} where
       → without k (take (i + 1) xs) ≡ without k (take i xs) ++ (getD xs i d ∷ [])
   without-more k i xs d h l = rw (take-more xs i d) (without-append k (take i xs) (getD xs i d ∷ []) (simp length-take (omega arith)))
 
+  -- nothing stands past the end
+  pub without-past : (k : ℕ) (l : List A) → length l ≤ k → without k l ≡ l
+  without-past k [] h = refl
+  without-past zero (x ∷ l) h = let z : ⊥ = omega arith in absurd z
+  without-past (suc k) (x ∷ l) h = ap (_∷_ x) (without-past k l (omega arith))
+
+  pub kept-le : (p : A → Bool) (xs : List A) → length (kept p xs) ≤ length xs
+  kept-le p [] = omega arith
+  kept-le p (x ∷ xs) =
+      let q = kept-le p xs in
+      chosen (λ (l : List A). length l ≤ length (x ∷ xs)) (p x) _ _ (λ _. omega arith) (λ _. omega arith)
+
   pub kept-append : (p : A → Bool) (xs ys : List A) → kept p (xs ++ ys) ≡ kept p xs ++ kept p ys
   kept-append p [] ys = refl
   kept-append p (x ∷ xs) ys = by (p x) refl (kept-append p xs ys)
@@ -133,3 +146,13 @@ module _ {A B : Type 0} where
   map-without f k [] = refl
   map-without f zero (x ∷ xs) = refl
   map-without f (suc k) (x ∷ xs) = ap (_∷_ (f x)) (map-without f k xs)
+
+  -- the view of those that pass is those of the view
+  pub map-kept : (f : A → B) (q : B → Bool) (xs : List A) → map f (kept (λ (a : A). q (f a)) xs) ≡ kept q (map f xs)
+  map-kept f q [] = refl
+  map-kept f q (x ∷ xs) = by (q (f x)) refl (map-kept f q xs)
+    where
+      by : (b : Bool) → q (f x) ≡ b → map f (kept (λ (a : A). q (f a)) xs) ≡ kept q (map f xs)
+          → map f (kept (λ (a : A). q (f a)) (x ∷ xs)) ≡ kept q (map f (x ∷ xs))
+      by true e ih = rw e (ap (_∷_ (f x)) ih)
+      by false e ih = rw e ih

@@ -120,3 +120,14 @@ module _ {A : Type 0} (f : A → A) where
   pub mapped-more : (xs : List A) (i : ℕ) (d : A) → i < length xs → set (mapped i xs) i (f (getD xs i d)) ≡ mapped (i + 1) xs
   mapped-more xs i d h =
       rw (drop-more xs i d, take-more xs i d, map-append, append-assoc) (set-at (map f (take i xs)) _ _ _ i (length-front xs i h))
+
+-- a fold seen through h, with its elements seen through k
+pub fold-hom : {A B C D : Type 0} (h : B → D) (k : A → C) (f : B → A → B) (g : D → C → D) → ((z : B) (a : A) → h (f z a) ≡ g (h z) (k a))
+    → (z : B) (l : List A) → h (fold f z l) ≡ fold g (h z) (map k l)
+fold-hom h k f g p z [] = refl
+fold-hom h k f g p z (a ∷ l) = fold-hom h k f g p (f z a) l ∙ rw (p z a)
+
+pub fold-see : {A B D : Type 0} (h : B → D) (f : B → A → B) (g : D → A → D) → ((z : B) (a : A) → h (f z a) ≡ g (h z) a)
+    → (z : B) (l : List A) → h (fold f z l) ≡ fold g (h z) l
+fold-see h f g p z [] = refl
+fold-see h f g p z (a ∷ l) = fold-see h f g p (f z a) l ∙ rw (p z a)

@@ -15,9 +15,10 @@ use Rattle.envelope.specs.declared.EnvGen.{EnvGen}
 use Rattle.envelope.specs.Gates.{isIdle, isRelease, at, gatedOn, released, withRelease, gatedOff, killed}
 use Rattle.design.specs.Accepted.{copiesOf}
 use Rattle.lists.specs.Choose.{chosen}
-use Rattle.lists.specs.Count.{oneIf, count, count-all, count-at, count-map}
+use Rattle.lists.specs.Count.{oneIf, count, count-set, count-all, count-at, count-map}
 use Rattle.lists.specs.Least.{Lowest, lowest-is}
 use Rattle.lists.specs.Places.{without}
+use Rattle.lists.specs.Parts.{length-snoc}
 use Rattle.model.specs.Types.{Voice, Model, Call, Reply, noVoice}
 use Rattle.model.specs.Changes.{placed}
 use Rattle.model.specs.Voices.{
@@ -70,14 +71,6 @@ tame-released v = record { same = refl; still = λ _. refl; fits = off-fits (v .
 tame-killed : (v : Voice) → Tame v (killedVoice v)
 unfolding killedVoice withVoice killed withRelease
 tame-killed v = record { same = refl; still = λ _. refl; fits = off-fits (v .releasing) (withRelease (v .env) _); sized = refl; steady = steady-killed (v .env) }
-
-count-set : {A : Type 0} (p : A → Bool) (d : A) (xs : List A) (k : ℕ) (a : A) → k < length xs → count p (set xs k a) + oneIf (p (getD xs k d)) ≡ count p xs + oneIf (p a)
-count-set p d [] k a h = let z : ⊥ = omega arith in absurd z
-count-set p d (x ∷ xs) zero a h = omega arith
-count-set p d (x ∷ xs) (suc k) a h = let q = count-set p d xs k a (omega arith) in omega arith
-
-length-snoc : {A : Type 0} (xs : List A) (a : A) (k : ℕ) → length xs ≡ k → length (xs ++ (a ∷ [])) ≡ suc k
-length-snoc xs a k e = let b = length-append xs (a ∷ []) in omega arith
 
 -- ---- the tests
 

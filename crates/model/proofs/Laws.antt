@@ -18,7 +18,8 @@ use Rattle.design.specs.declared.InstrumentDesign.{InstrumentDesign}
 use Rattle.design.specs.Accepted.{modulated, numbersFit, isAccepted}
 use Rattle.lists.specs.Choose.{chosen, clash}
 use Rattle.lists.specs.Count.{count}
-use Rattle.lists.specs.Places.{kept}
+use Rattle.lists.specs.Parts.{length-flat}
+use Rattle.lists.specs.Places.{kept, kept-le}
 use Rattle.lists.specs.Prefix.{fold}
 use Rattle.model.specs.Types.{Voice, Model, Call, Outcome, numberOf}
 use Rattle.model.specs.Types.{Call.noteOn, Call.noteOff, Call.pedal, Call.bend, Call.brightness, Call.release, Call.allOff, Call.plan, Call.mix}
@@ -84,15 +85,6 @@ all-off-releases m e =
 
 -- ---- lent lists
 
-length-flat : {A B : Type 0} (f : A → List B) (n : ℕ) → ((a : A) → length (f a) ≡ n) → (xs : List A) → length (flatMap f xs) ≡ n * length xs
-unfolding flatMap
-length-flat f n h [] = omega arith
-length-flat f n h (x ∷ xs) =
-    let a = length-append (f x) (flatMap f xs) in
-    let b = length-flat f n h xs in
-    let c = h x in
-    rw mul-suc (omega arith)
-
 length-curve : (n : ℕ) (c : UnisonCopy) → length (curve n c) ≡ n
 unfolding curve
 length-curve zero c = refl
@@ -117,7 +109,7 @@ unfolding modulatedBy applied moved
 modulated-copies m n vibrato filter sine =
     chosen (λ (t : Model). copiesIn (t .voices) ≡ copiesIn (m .voices)) (modulated (m .design .modulation)) _ _ (λ _. copies-same _ (m .voices)) (λ _. refl)
 
-length-add : (g : Float) (xs es cs : List Float) → length (addSide g xs es cs) ≡ length cs
+pub length-add : (g : Float) (xs es cs : List Float) → length (addSide g xs es cs) ≡ length cs
 length-add g [] es cs = refl
 length-add g (x ∷ xs) [] cs = refl
 length-add g (x ∷ xs) (e ∷ es) [] = refl
@@ -136,7 +128,7 @@ module _ (side : UnisonCopy → Float) (n : ℕ) where
   unfolding sideVoice
   length-voice trem z v = length-fold _ (length-copy (levels (v .gain) trem n (v .env))) z (v .copies)
 
-  length-side : (trem : Float) (samples : List Float) (vs : List Voice) → length (sideMix side n trem samples vs) ≡ n
+  pub length-side : (trem : Float) (samples : List Float) (vs : List Voice) → length (sideMix side n trem samples vs) ≡ n
   unfolding sideMix
   length-side trem samples vs = length-fold _ (length-voice trem) (mixing samples (replicate n +0)) vs ∙ length-replicate n +0
 
@@ -182,12 +174,6 @@ lent-lengths m c = by (eqb (refusal m c) 0) refl
     by false q = ap (λ (o : Outcome). length (o .lent)) (step-refused m c (eqb-false (refusal m c) 0 q))
 
 -- ---- the report
-
-kept-le : {A : Type 0} (p : A → Bool) (xs : List A) → length (kept p xs) ≤ length xs
-kept-le p [] = omega arith
-kept-le p (x ∷ xs) =
-    let q = kept-le p xs in
-    chosen (λ (l : List _). length l ≤ length (x ∷ xs)) (p x) _ _ (λ _. omega arith) (λ _. omega arith)
 
 ended-few : (m : Model) → wellFormed m ≡ true → length (endedHandles (played m)) ≤ 64
 unfolding endedHandles played

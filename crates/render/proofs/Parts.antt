@@ -7,7 +7,8 @@ use native.Mathlib.Omega.{arith}
 use lib.Ieee.{Float, binary32, add, mul}
 use lib.ListN.{length, take, drop, replicate, length-replicate}
 use lib.Seq.{take-take, take-all, drop-drop}
-use Rattle.lists.specs.Prefix.{fold}
+use Rattle.lists.specs.Prefix.{fold, fold-hom, fold-see}
+use Rattle.lists.specs.Parts.{part-take, part-replicate}
 use Rattle.float32.specs.Numbers.{zero as +0}
 use Rattle.envelope.specs.declared.EnvGen.{EnvGen}
 use Rattle.envelope.specs.Ticks.{ticked}
@@ -19,18 +20,9 @@ use Rattle.voice.specs.View.{Seen}
 use Rattle.voices.specs.View.{voicesOf}
 use Rattle.voice.specs.Changes.{onSeen}
 use Rattle.voices.specs.Changes.{map-seen}
+use Rattle.model.proofs.Laws.{length-add}
+use Rattle.levels.proofs.Frames.{aged-add}
 use Rattle.render.specs.Parts.{partCopy, partVoice}
-
--- a fold seen through h
-fold-hom : {A B C D : Type 0} (h : B → D) (k : A → C) (f : B → A → B) (g : D → C → D) → ((z : B) (a : A) → h (f z a) ≡ g (h z) (k a))
-    → (z : B) (l : List A) → h (fold f z l) ≡ fold g (h z) (map k l)
-fold-hom h k f g p z [] = refl
-fold-hom h k f g p z (a ∷ l) = fold-hom h k f g p (f z a) l ∙ rw (p z a)
-
-fold-see : {A B D : Type 0} (h : B → D) (f : B → A → B) (g : D → A → D) → ((z : B) (a : A) → h (f z a) ≡ g (h z) a)
-    → (z : B) (l : List A) → h (fold f z l) ≡ fold g (h z) l
-fold-see h f g p z [] = refl
-fold-see h f g p z (a ∷ l) = fold-see h f g p (f z a) l ∙ rw (p z a)
 
 -- ---- one side of one copy
 
@@ -58,18 +50,7 @@ module _ (g : Float) where
   take-side (suc m) (x ∷ xs) (e ∷ es) [] = refl
   take-side (suc m) (x ∷ xs) (e ∷ es) (c ∷ cs) = ap (_∷_ (add binary32 c (mul binary32 (mul binary32 x e) g))) (take-side m xs es cs)
 
-  pub length-side : (xs es cs : List Float) → length (addSide g xs es cs) ≡ length cs
-  length-side [] es cs = refl
-  length-side (x ∷ xs) [] cs = refl
-  length-side (x ∷ xs) (e ∷ es) [] = refl
-  length-side (x ∷ xs) (e ∷ es) (c ∷ cs) = ap suc (length-side xs es cs)
-
 -- ---- the envelope in parts
-
-aged-add : (a m : ℕ) (e : EnvGen) → aged (a + m) e ≡ aged m (aged a e)
-unfolding aged
-aged-add zero m e = rw zero-add
-aged-add (suc a) m e = rw suc-add (aged-add a m (ticked e))
 
 module _ (gain trem : Float) where
   pub length-levels : (n : ℕ) (e : EnvGen) → length (levels gain trem n e) ≡ n
@@ -85,21 +66,6 @@ module _ (gain trem : Float) where
       ap (_∷_ (mul binary32 (mul binary32 (ticked e .level) gain) trem)) (levels-part zero m n (ticked e) (omega arith))
   levels-part (suc a) m zero e h = let z : ⊥ = omega arith in absurd z
   levels-part (suc a) m (suc n) e h = levels-part a m n (ticked e) (omega arith)
-
--- ---- lists in parts
-
-part-take : (a m n : ℕ) (xs : List Float) → a + m ≤ n → take m (drop a (take n xs)) ≡ take m (drop a xs)
-part-take zero m n xs h = take-take m n xs (omega arith)
-part-take (suc a) m zero xs h = let z : ⊥ = omega arith in absurd z
-part-take (suc a) m (suc n) [] h = refl
-part-take (suc a) m (suc n) (x ∷ xs) h = part-take a m n xs (omega arith)
-
-part-replicate : (a m n : ℕ) (x : Float) → a + m ≤ n → take m (drop a (replicate n x)) ≡ replicate m x
-part-replicate zero zero n x h = refl
-part-replicate zero (suc m) zero x h = let z : ⊥ = omega arith in absurd z
-part-replicate zero (suc m) (suc n) x h = ap (_∷_ x) (part-replicate zero m n x (omega arith))
-part-replicate (suc a) m zero x h = let z : ⊥ = omega arith in absurd z
-part-replicate (suc a) m (suc n) x h = part-replicate a m n x (omega arith)
 
 -- the frames from a on of a side under way
 abbrev cut : ℕ → ℕ → Mixing → Mixing
@@ -170,26 +136,6 @@ module _ (side : UnisonCopy → Float) (n a m : ℕ) where
   pub left-voice : (trem : Float) (z : Mixing) (v : model.Voice) → partVoice side n a m trem z v .samples ≡ drop (n * length (v .copies)) (z .samples)
   unfolding partVoice
   left-voice trem z v = left-copies (levels (v .gain) trem m (v .env)) z (v .copies)
-
--- ---- lengths
-
-length-fold : {A : Type 0} (f : Mixing → A → Mixing) → ((z : Mixing) (a : A) → length (f z a .sums) ≡ length (z .sums))
-    → (z : Mixing) (xs : List A) → length (fold f z xs .sums) ≡ length (z .sums)
-length-fold f h z [] = refl
-length-fold f h z (x ∷ xs) = length-fold f h (f z x) xs ∙ h z x
-
-module _ (side : UnisonCopy → Float) (n : ℕ) where
-  length-copy : (es : List Float) (z : Mixing) (c : UnisonCopy) → length (sideCopy side n es z c .sums) ≡ length (z .sums)
-  unfolding sideCopy
-  length-copy es z c = length-side (side c) (take n (z .samples)) es (z .sums)
-
-  length-voice : (trem : Float) (z : Mixing) (v : model.Voice) → length (sideVoice side n trem z v .sums) ≡ length (z .sums)
-  unfolding sideVoice
-  length-voice trem z v = length-fold _ (length-copy (levels (v .gain) trem n (v .env))) z (v .copies)
-
-  pub length-mix : (trem : Float) (xs : List Float) (vs : List model.Voice) → length (sideMix side n trem xs vs) ≡ n
-  unfolding sideMix
-  length-mix trem xs vs = length-fold _ (length-voice trem) (mixing xs (replicate n +0)) vs ∙ length-replicate n +0
 
 -- ---- a table aged in parts
 

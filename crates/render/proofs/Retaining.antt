@@ -6,10 +6,8 @@ use Prim.Native.Nat.{ℕ, suc, _+_, _-_, _≤_, _<_}
 use native.Mathlib.Omega.{arith}
 use lib.ListN.{length, set, length-append}
 use lib.Seq.{set-at}
-use Rattle.lists.specs.All.{all}
-use Rattle.lists.specs.Choose.{both}
 use Rattle.lists.specs.Pass.{Pass, pass-keep, pass-skip}
-use Rattle.lists.specs.Places.{kept, kept-append}
+use Rattle.lists.specs.Places.{kept, kept-append, map-kept}
 use Rattle.model.specs.Types as model
 use Rattle.model.specs.Voices.{isEnded}
 use Rattle.model.specs.Mix.{remaining, endedHandles}
@@ -18,27 +16,6 @@ use Rattle.voice.specs.View.{shown}
 use Rattle.voice.specs.View.{Seen, seen}
 use Rattle.voices.specs.View.{voicesOf}
 use Rattle.render.specs.Retains.{padded}
-
--- the view of those that pass is those of the view
-pub map-kept : {A B : Type 0} (f : A → B) (q : B → Bool) (xs : List A) → map f (kept (λ (a : A). q (f a)) xs) ≡ kept q (map f xs)
-map-kept f q [] = refl
-map-kept f q (x ∷ xs) = by (q (f x)) refl (map-kept f q xs)
-  where
-    by : (b : Bool) → q (f x) ≡ b → map f (kept (λ (a : _). q (f a)) xs) ≡ kept q (map f xs)
-        → map f (kept (λ (a : _). q (f a)) (x ∷ xs)) ≡ kept q (map f (x ∷ xs))
-    by true e ih = rw e (ap (_∷_ (f x)) ih)
-    by false e ih = rw e ih
-
--- what all pass is passed by those that are kept
-pub all-kept : {A : Type 0} (p q : A → Bool) (xs : List A) → all p xs ≡ true → all p (kept q xs) ≡ true
-all-kept p q [] e = refl
-all-kept p q (x ∷ xs) e =
-    let h = both (p x) (all p xs) e in
-    by (q x) refl (h .0) (all-kept p q xs (h .1))
-  where
-    by : (b : Bool) → q x ≡ b → p x ≡ true → all p (kept q xs) ≡ true → all p (kept q (x ∷ xs)) ≡ true
-    by true f g ih = rw (f, g) ih
-    by false f g ih = rw f ih
 
 pub goesOn : Seen → Bool
 goesOn x = not (isEnded (x .voice))

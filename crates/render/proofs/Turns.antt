@@ -14,7 +14,8 @@ use Rattle.model.specs.Types as model
 use Rattle.model.specs.Mix.{levels, addSide, Mixing, mixing, interleave, onLeft, onRight}
 use Rattle.voice.proofs.Sizes.{noCopy}
 use Rattle.render.specs.Parts.{row, partCopy, partVoice, Gains, addFour, BothSides}
-use Rattle.render.proofs.Parts.{length-side, left-voice}
+use Rattle.model.proofs.Laws.{length-add}
+use Rattle.render.proofs.Parts.{left-voice}
 
 -- ---- one frame
 
@@ -77,9 +78,9 @@ four-more g at n m f xs es cs o hf hx he h p =
     let sa = addSide (g .a) (row at f xs) ls cs in
     let sb = addSide (g .b) (row (at + n) f xs) ls sa in
     let sc = addSide (g .c) (row (at + n + n) f xs) ls sb in
-    let la : f < length sa = rw (length-side (g .a) (row at f xs) ls cs) h in
-    let lb : f < length sb = rw (length-side (g .b) (row (at + n) f xs) ls sa) la in
-    let lc : f < length sc = rw (length-side (g .c) (row (at + n + n) f xs) ls sb) lb in
+    let la : f < length sa = rw (length-add (g .a) (row at f xs) ls cs) h in
+    let lb : f < length sb = rw (length-add (g .b) (row (at + n) f xs) ls sa) la in
+    let lc : f < length sc = rw (length-add (g .c) (row (at + n + n) f xs) ls sb) lb in
     let x = getD cs f nan in
     let xa = add binary32 x (termAt (g .a) xs es at f) in
     let xb = add binary32 xa (termAt (g .b) xs es (at + n) f) in

@@ -12,7 +12,8 @@ use Rattle.lists.specs.Prefix.{fold, fold-snoc}
 use Rattle.text.specs.declared.Read.{Read}
 use Rattle.text.specs.Text.{figure, figures, decimalText, NoDigit}
 use Rattle.text.specs.Read.{DecimalAs, FigureAs, GrowsAs}
-use Rattle.text.proofs.Spelt.{head-same, tail-same, parts-same, front-on, Spelt, spelt-append, begun}
+use Rattle.lists.specs.Parts.{head-same, tail-same, parts-same, front-on}
+use Rattle.text.proofs.Spelt.{Spelt, spelt-append, begun}
 
 -- a number is parted at its last digit
 pub tens : (n : ℕ) → (10 * (n / 10) + n % 10 ≡ n) × (n % 10 < 10)

@@ -5,18 +5,10 @@ use Prim.Native.Nat.{ℕ, zero, suc, _+_, _-_, _*_, _/_, _%_, _≤_, _<_}
 use native.Mathlib.Omega.{arith}
 use lib.ListN.{length, take, drop, set, length-drop, length-set, drop-of-length-le}
 use lib.Seq.{take-all, drop-cons, drop-set-lt, getD-set-same}
+use Rattle.lists.specs.Parts.{drop-set}
 use Rattle.text.specs.Text.{figure, decimalText, glyph, glyphs, wordText}
 use Rattle.text.specs.Put.{EndsIn, PutAs}
 use Rattle.text.proofs.Decimals.{tens, text-one, text-more}
-
--- what stands from a place on after a store there
-drop-set : (l : List ℕ) (k x : ℕ) → k < length l → drop k (set l k x) ≡ x ∷ drop (suc k) l
-drop-set l k x h =
-    let n = length-set l k x in
-    let q : k < length (set l k x) = omega arith in
-    drop-cons (set l k x) k 0 q
-    ∙ ap (λ (y : ℕ). y ∷ drop (suc k) (set l k x)) (getD-set-same l k x 0 h)
-    ∙ ap (_∷_ x) (drop-set-lt (suc k) l k x (omega arith))
 
 -- 10 to the k
 abbrev pub tenfold : ℕ → ℕ

@@ -5,33 +5,9 @@ use Prim.Native.Nat.{ℕ, _+_, _≤_, _<_}
 use native.Mathlib.Omega.{arith}
 use lib.ListN.{length, drop, getD, drop-of-length-le}
 use Rattle.lists.specs.Prefix.{drop-more}
+use Rattle.lists.specs.Parts.{head-same, tail-same}
 use Rattle.text.specs.Read.{ValueAs, FigureAs}
 use Rattle.text.specs.Text.{NoneFirst}
-
-module _ {A : Type 0} where
-  pub head-same : {x y : A} {xs ys : List A} → x ∷ xs ≡ y ∷ ys → x ≡ y
-  head-same e = cc
-
-  pub tail-same : {x y : A} {xs ys : List A} → x ∷ xs ≡ y ∷ ys → xs ≡ ys
-  tail-same e = cc
-
-  -- of two ways to part one list, those with fronts of one length are the same
-  pub parts-same : (xs ys cs ds : List A) → length xs ≡ length ys → xs ++ cs ≡ ys ++ ds → (xs ≡ ys) × (cs ≡ ds)
-  parts-same [] [] cs ds h e = (refl, e)
-  parts-same [] (y ∷ ys) cs ds h e = let z : ⊥ = omega arith in absurd z
-  parts-same (x ∷ xs) [] cs ds h e = let z : ⊥ = omega arith in absurd z
-  parts-same (x ∷ xs) (y ∷ ys) cs ds h e =
-      let q = parts-same xs ys cs ds (omega arith) (tail-same e) in
-      (let f : x ≡ y = head-same e in let g = q .0 in cc, q .1)
-
-  -- a longer front goes on where the shorter ends
-  pub front-on : (xs ys cs ds : List A) → length ys ≤ length xs → xs ++ cs ≡ ys ++ ds → xs ≡ ys ++ drop (length ys) xs
-  front-on xs [] cs ds h e = refl
-  front-on [] (y ∷ ys) cs ds h e = let z : ⊥ = omega arith in absurd z
-  front-on (x ∷ xs) (y ∷ ys) cs ds h e =
-      let q = front-on xs ys cs ds (omega arith) (tail-same e) in
-      let f : x ≡ y = head-same e in
-      cc
 
 module _ (b : ℕ) (byte : ℕ → ℕ) where
   pub record Digit (x : ℕ) : Type 0 where

@@ -11,7 +11,8 @@ use borrow.Author.Tests.{ltb-true, ltb-false, lt-ltb, le-ltb}
 use lib.ListN.{length, drop, length-append}
 use Rattle.text.specs.Text.{glyph, glyphs, wordText}
 use Rattle.text.specs.Read.{WordAs, ValueAs, FigureAs}
-use Rattle.text.proofs.Spelt.{head-same, parts-same, Spelt, spelt-append, begun}
+use Rattle.lists.specs.Parts.{head-same, parts-same}
+use Rattle.text.proofs.Spelt.{Spelt, spelt-append, begun}
 use Rattle.text.proofs.Decimals.{missing, found, never}
 
 sixteens : (n : ℕ) → (16 * (n / 16) + n % 16 ≡ n) × (n % 16 < 16)

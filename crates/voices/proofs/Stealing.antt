@@ -10,7 +10,7 @@ use lib.ListN.{length, getD, set, List·getD-eq-default}
 use Rattle.lists.specs.Choose.{cond-true, cond-false, both}
 use Rattle.lists.specs.Count.{count}
 use Rattle.lists.specs.Least.{lowest-is}
-use Rattle.lists.specs.Places.{without, map-without}
+use Rattle.lists.specs.Places.{without, without-past, map-without}
 use Rattle.model.specs.Types as model
 use Rattle.model.specs.Voices.{killedVoice, sounding, anyVoice, quieter, changed, handleAt, quietestSounding, quietest}
 use Rattle.model.specs.Notes.{full, afterKill, killedHandle, crowded, afterTaking, takenHandle}
@@ -31,12 +31,6 @@ room-without zero (x ∷ l) e = both (leb (x .count) 8) (inRoom l) e .1
 room-without (suc k) (x ∷ l) e =
     let h = both (leb (x .count) 8) (inRoom l) e in
     rw (h .0) (room-without k l (h .1))
-
--- a list without what stands past its end
-without-past : {A : Type 0} (k : ℕ) (l : List A) → length l ≤ k → without k l ≡ l
-without-past k [] h = refl
-without-past zero (x ∷ l) h = let z : ⊥ = omega arith in absurd z
-without-past (suc k) (x ∷ l) h = ap (_∷_ x) (without-past k l (omega arith))
 
 count-any : (l : List model.Voice) → count anyVoice l ≡ length l
 count-any [] = refl

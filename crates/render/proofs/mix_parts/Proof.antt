@@ -13,7 +13,8 @@ use Rattle.voice.specs.declared.Voice.{Voice}
 use Rattle.voices.specs.View.{seenFirst, voicesOf}
 use Rattle.voice.specs.Changes.{onSeen}
 use Rattle.voices.specs.Changes.{map-seen}
-use Rattle.render.proofs.Parts.{later-none, later-twice, later-copies, block-is, length-mix}
+use Rattle.model.proofs.Laws.{length-side}
+use Rattle.render.proofs.Parts.{later-none, later-twice, later-copies, block-is}
 use Rattle.render.proofs.Turns.{part-more}
 use Rattle.render.proofs.mix_parts.Statement.{statement}
 use Rattle.render.proofs.mix_parts.Tie as tie
@@ -68,7 +69,7 @@ loop-again c =
     let voices : voicesOf (seenFirst (x .n) (b .loop .ws)) ≡ map (agedVoice a) (voicesOf vs) = ap voicesOf aged ∙ map-seen (agedVoice a) vs in
     let ls = side onLeft (x .n) (x .frames) (x .trem) (x .samples .now) (x .vs) in
     let rs = side onRight (x .n) (x .frames) (x .trem) (x .samples .now) (x .vs) in
-    let size : length ls ≡ length rs = length-mix onLeft (x .frames) (x .trem) (x .samples .now) (voicesOf vs) ∙ sym (length-mix onRight (x .frames) (x .trem) (x .samples .now) (voicesOf vs)) in
+    let size : length ls ≡ length rs = length-side onLeft (x .frames) (x .trem) (x .samples .now) (voicesOf vs) ∙ sym (length-side onRight (x .frames) (x .trem) (x .samples .now) (voicesOf vs)) in
     let e = call .add-voices .ensures in
     let fits : a + m ≤ x .frames = omega arith in
     let few : m ≤ 64 = omega arith in (
@@ -92,8 +93,8 @@ returns c =
     let vs = voicesOf (seenFirst (x .n) (x .vs)) in
     let ls = side onLeft (x .n) (x .frames) (x .trem) (x .samples .now) (x .vs) in
     let rs = side onRight (x .n) (x .frames) (x .trem) (x .samples .now) (x .vs) in
-    let hl = length-mix onLeft (x .frames) (x .trem) (x .samples .now) vs in
-    let hr = length-mix onRight (x .frames) (x .trem) (x .samples .now) vs in
+    let hl = length-side onLeft (x .frames) (x .trem) (x .samples .now) vs in
+    let hr = length-side onRight (x .frames) (x .trem) (x .samples .now) vs in
     let e : b .loop .a ≡ x .frames = omega arith in
     let o = rw (e, take-all (x .frames) ls (omega (arith, hl)), take-all (x .frames) rs (omega (arith, hr))) at (b .loop .inv .3) in
     record {

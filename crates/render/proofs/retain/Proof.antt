@@ -15,7 +15,8 @@ use Rattle.voice.specs.View.{shown}
 use Rattle.voice.specs.View.{Seen, seen}
 use Rattle.voices.specs.View.{seenFirst, voicesOf, inRoom}
 use Rattle.voice.proofs.Sizes.{pastEnd}
-use Rattle.render.proofs.Retaining.{Retaining, goesOn, remaining-seen, all-kept, retain-on, retain-not}
+use Rattle.lists.specs.All.{all-kept}
+use Rattle.render.proofs.Retaining.{Retaining, goesOn, remaining-seen, retain-on, retain-not}
 use Rattle.render.proofs.retain.Statement.{statement}
 use Rattle.render.proofs.retain.Tie as tie
 
