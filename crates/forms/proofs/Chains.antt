@@ -5,6 +5,8 @@ use mathlib.Core.List.{List, _∷_, _++_, append-assoc}
 use Prim.Native.Nat.{ℕ, zero, suc, _+_, _-_, _≤_, _<_}
 use native.Mathlib.Omega.{arith}
 use lib.ListN.{length, drop, length-drop, drop-of-length-le}
+use Rattle.lists.specs.Choose.{clash}
+use Rattle.lists.specs.Parts.{head-same}
 use Rattle.text.specs.declared.Read.{Read}
 use Rattle.text.specs.Text.{NoDigit}
 use Rattle.text.specs.Read.{ReadAs, Any}
@@ -12,13 +14,7 @@ use Rattle.forms.specs.Forms.{poly, mono, legato, modeText}
 use Rattle.forms.specs.Led.{Alone, Led, Zero, Wanted, AtEnd}
 
 pub never : (b : Bool) {A : Type 0} → b ≡ true → b ≡ false → A
-never b e f = let z : _≡_ {A = ℕ} 0 1 = cc in let y : ⊥ = omega arith in absurd y
-
-pub head-same : {x y : ℕ} {xs ys : List ℕ} → x ∷ xs ≡ y ∷ ys → x ≡ y
-head-same e = cc
-
-pub tail-same : {x y : ℕ} {xs ys : List ℕ} → x ∷ xs ≡ y ∷ ys → xs ≡ ys
-tail-same e = cc
+never b e f = absurd (clash b e f)
 
 -- a byte below `0` is no digit
 pub apart : (x : ℕ) (xs : List ℕ) → x < 48 → NoDigit (x ∷ xs)
@@ -79,6 +75,20 @@ module _ {B : Type 0} (words : List ℕ) (TB : B → List ℕ) (FB : B → Type 
         only = λ o h w rest f g e.
             let y = s .only o h (0, w) rest (refl, f) g e in
             record { ok = y .ok; value = ap (λ (u : ℕ × B). u .1) (y .value); left = y .left };
+      }
+
+-- a part and the words that end the line
+module _ {A : Type 0} (TA : A → List ℕ) (FA : A → Type 0) (EA : List ℕ → Type 0) (words l : List ℕ) where
+  pub lastly : {ok okA okB : Bool} {at n m b : ℕ} {a : A} → Led TA FA EA l ok at okA a n → Led (Wanted words) Zero AtEnd l okA n okB b m
+      → ((w : ℕ) (rest : List ℕ) → EA (words ++ rest)) → Led (λ v. TA v ++ words) FA AtEnd l ok at okB a m
+  lastly p q follow =
+      let s = andThen TA FA EA (Wanted words) Zero AtEnd l p q follow in
+      record {
+        off = s .off;
+        yes = λ e. let x = s .yes e in record { whole = x .whole; fits = x .fits .0; ends = x .ends; inside = x .inside };
+        only = λ o h w rest f g e.
+            let y = s .only o h (w, 0) rest (f, refl) g e in
+            record { ok = y .ok; value = ap (λ (u : A × ℕ). u .0) (y .value); left = y .left };
       }
 
 -- words that end the line

@@ -12,9 +12,10 @@ use Rattle.forms.specs.declared.DesignRead.{DesignRead}
 use Rattle.forms.specs.declared.OnRead.{OnRead}
 use Rattle.forms.specs.declared.Form.{Form}
 use Rattle.forms.specs.declared.Form.the-variants.{Unread, Design, On, Voices}
-use Rattle.forms.specs.Forms.{Below32, openDesign, thenMax, thenMode, thenUnison, space, thenAmp, thenGlide, thenMod, closeDesign, openOn, close, voices, decimalPart, modePart, wordPart, Says, FormAs}
-use Rattle.forms.specs.Led.{Led, Zero, Wanted, AtEnd, LedEnd, DesignReadAs, OnReadAs}
-use Rattle.forms.proofs.Chains.{never, head-same, tail-same}
+use Rattle.forms.specs.Forms.{Below32, openDesign, thenMax, thenMode, thenUnison, space, openOn, close, voices, decimalPart, modePart, wordPart, Says, FormAs}
+use Rattle.forms.specs.Led.{Led, Zero, Wanted, AtEnd, LedEnd, Sound, soundText, SoundFits, DesignReadAs, OnReadAs}
+use Rattle.lists.specs.Parts.{head-same, tail-same}
+use Rattle.forms.proofs.Chains.{never}
 
 -- where the reader of a line begins
 abbrev pub begun : Read
@@ -69,17 +70,20 @@ under h = omega arith
 within : {n : ℕ} → n < 0x1_0000_0000 → n ≤ 0xffff_ffff
 within h = omega arith
 
+-- the first half of a design line, and the second
 abbrev pub DesignParts : Type 0
-DesignParts = ℕ × (ℕ × (ℕ × (ℕ × (ℕ × (ℕ × (ℕ × (ℕ × (ℕ × (ℕ × (ℕ × (ℕ × (ℕ × (ℕ × (ℕ × (ℕ × ℕ)))))))))))))))
+DesignParts = ℕ × (ℕ × (ℕ × (ℕ × (ℕ × (Sound)))))
 
 abbrev pub designParts : DesignParts → List ℕ
-designParts p = decimalPart openDesign (p .0) ++ (decimalPart thenMax (p .1 .0) ++ (modePart thenMode (p .1 .1 .0) ++ (decimalPart thenUnison (p .1 .1 .1 .0) ++ (wordPart space (p .1 .1 .1 .1 .0) ++ (wordPart thenAmp (p .1 .1 .1 .1 .1 .0) ++ (wordPart space (p .1 .1 .1 .1 .1 .1 .0) ++ (wordPart space (p .1 .1 .1 .1 .1 .1 .1 .0) ++ (wordPart space (p .1 .1 .1 .1 .1 .1 .1 .1 .0) ++ (wordPart thenGlide (p .1 .1 .1 .1 .1 .1 .1 .1 .1 .0) ++ (wordPart thenMod (p .1 .1 .1 .1 .1 .1 .1 .1 .1 .1 .0) ++ (wordPart space (p .1 .1 .1 .1 .1 .1 .1 .1 .1 .1 .1 .0) ++ (wordPart space (p .1 .1 .1 .1 .1 .1 .1 .1 .1 .1 .1 .1 .0) ++ (wordPart space (p .1 .1 .1 .1 .1 .1 .1 .1 .1 .1 .1 .1 .1 .0) ++ (wordPart space (p .1 .1 .1 .1 .1 .1 .1 .1 .1 .1 .1 .1 .1 .1 .0) ++ (wordPart space (p .1 .1 .1 .1 .1 .1 .1 .1 .1 .1 .1 .1 .1 .1 .1 .0) ++ closeDesign)))))))))))))))
+designParts p =
+    decimalPart openDesign (p .0) ++ (decimalPart thenMax (p .1 .0) ++ (modePart thenMode (p .1 .1 .0) ++ (decimalPart thenUnison (p .1 .1 .1 .0) ++ (wordPart space (p .1 .1 .1 .1 .0) ++ (soundText (p .1 .1 .1 .1 .1))))))
 
 abbrev pub DesignPartsFit : DesignParts → Type 0
-DesignPartsFit p = (p .0 ≤ 0xffff_ffff) × ((p .1 .0 ≤ 0xffff_ffff) × ((p .1 .1 .0 < 3) × ((p .1 .1 .1 .0 ≤ 0xffff_ffff) × (Below32 (p .1 .1 .1 .1 .0) × (Below32 (p .1 .1 .1 .1 .1 .0) × (Below32 (p .1 .1 .1 .1 .1 .1 .0) × (Below32 (p .1 .1 .1 .1 .1 .1 .1 .0) × (Below32 (p .1 .1 .1 .1 .1 .1 .1 .1 .0) × (Below32 (p .1 .1 .1 .1 .1 .1 .1 .1 .1 .0) × (Below32 (p .1 .1 .1 .1 .1 .1 .1 .1 .1 .1 .0) × (Below32 (p .1 .1 .1 .1 .1 .1 .1 .1 .1 .1 .1 .0) × (Below32 (p .1 .1 .1 .1 .1 .1 .1 .1 .1 .1 .1 .1 .0) × (Below32 (p .1 .1 .1 .1 .1 .1 .1 .1 .1 .1 .1 .1 .1 .0) × (Below32 (p .1 .1 .1 .1 .1 .1 .1 .1 .1 .1 .1 .1 .1 .1 .0) × (Below32 (p .1 .1 .1 .1 .1 .1 .1 .1 .1 .1 .1 .1 .1 .1 .1 .0) × Zero (p .1 .1 .1 .1 .1 .1 .1 .1 .1 .1 .1 .1 .1 .1 .1 .1))))))))))))))))
+DesignPartsFit p =
+    (p .0 ≤ 0xffff_ffff) × ((p .1 .0 ≤ 0xffff_ffff) × ((p .1 .1 .0 < 3) × ((p .1 .1 .1 .0 ≤ 0xffff_ffff) × (Below32 (p .1 .1 .1 .1 .0) × (SoundFits (p .1 .1 .1 .1 .1))))))
 
 abbrev designOf : DesignParts → DesignForm
-designOf p = record { rate = p .0; max = p .1 .0; mode = p .1 .1 .0; unison = p .1 .1 .1 .0; width = p .1 .1 .1 .1 .0; a = p .1 .1 .1 .1 .1 .0; d = p .1 .1 .1 .1 .1 .1 .0; s = p .1 .1 .1 .1 .1 .1 .1 .0; r = p .1 .1 .1 .1 .1 .1 .1 .1 .0; glide = p .1 .1 .1 .1 .1 .1 .1 .1 .1 .0; «vibrato_rate» = p .1 .1 .1 .1 .1 .1 .1 .1 .1 .1 .0; «vibrato_cents» = p .1 .1 .1 .1 .1 .1 .1 .1 .1 .1 .1 .0; «tremolo_rate» = p .1 .1 .1 .1 .1 .1 .1 .1 .1 .1 .1 .1 .0; «tremolo_depth» = p .1 .1 .1 .1 .1 .1 .1 .1 .1 .1 .1 .1 .1 .0; «filter_rate» = p .1 .1 .1 .1 .1 .1 .1 .1 .1 .1 .1 .1 .1 .1 .0; «filter_octaves» = p .1 .1 .1 .1 .1 .1 .1 .1 .1 .1 .1 .1 .1 .1 .1 .0 }
+designOf p = let q = p .1 .1 .1 .1 .1 in record { rate = p .0; max = p .1 .0; mode = p .1 .1 .0; unison = p .1 .1 .1 .0; width = p .1 .1 .1 .1 .0; a = q .0; d = q .1 .0; s = q .1 .1 .0; r = q .1 .1 .1 .0; glide = q .1 .1 .1 .1 .0; «vibrato_rate» = q .1 .1 .1 .1 .1 .0; «vibrato_cents» = q .1 .1 .1 .1 .1 .1 .0; «tremolo_rate» = q .1 .1 .1 .1 .1 .1 .1 .0; «tremolo_depth» = q .1 .1 .1 .1 .1 .1 .1 .1 .0; «filter_rate» = q .1 .1 .1 .1 .1 .1 .1 .1 .1 .0; «filter_octaves» = q .1 .1 .1 .1 .1 .1 .1 .1 .1 .1 }
 
 pub design-line : (l : List ℕ) (b : Read) (found : Bool) (v : DesignParts) (next : ℕ) → b ≡ begun
     → Led designParts DesignPartsFit AtEnd l (b .ok) (b .next) found v next → DesignReadAs l (record { ok = found; form = designOf v })
@@ -87,9 +91,11 @@ design-line l b found v next e p = record {
   yes = λ f.
       let y = line-yes designParts DesignPartsFit l b found v next e p f in
       let h = y .0 in
-      (record { rate = under (h .0); max = under (h .1 .0); mode = h .1 .1 .0; unison = under (h .1 .1 .1 .0); width = h .1 .1 .1 .1 .0; a = h .1 .1 .1 .1 .1 .0; d = h .1 .1 .1 .1 .1 .1 .0; s = h .1 .1 .1 .1 .1 .1 .1 .0; r = h .1 .1 .1 .1 .1 .1 .1 .1 .0; glide = h .1 .1 .1 .1 .1 .1 .1 .1 .1 .0; vibratoRate = h .1 .1 .1 .1 .1 .1 .1 .1 .1 .1 .0; vibratoCents = h .1 .1 .1 .1 .1 .1 .1 .1 .1 .1 .1 .0; tremoloRate = h .1 .1 .1 .1 .1 .1 .1 .1 .1 .1 .1 .1 .0; tremoloDepth = h .1 .1 .1 .1 .1 .1 .1 .1 .1 .1 .1 .1 .1 .0; filterRate = h .1 .1 .1 .1 .1 .1 .1 .1 .1 .1 .1 .1 .1 .1 .0; filterOctaves = h .1 .1 .1 .1 .1 .1 .1 .1 .1 .1 .1 .1 .1 .1 .1 .0 }, y .1);
+      let k = h .1 .1 .1 .1 .1 in
+      (record { rate = under (h .0); max = under (h .1 .0); mode = h .1 .1 .0; unison = under (h .1 .1 .1 .0); width = h .1 .1 .1 .1 .0; a = k .0; d = k .1 .0; s = k .1 .1 .0; r = k .1 .1 .1 .0; glide = k .1 .1 .1 .1 .0; vibratoRate = k .1 .1 .1 .1 .1 .0; vibratoCents = k .1 .1 .1 .1 .1 .1 .0; tremoloRate = k .1 .1 .1 .1 .1 .1 .1 .0; tremoloDepth = k .1 .1 .1 .1 .1 .1 .1 .1 .0; filterRate = k .1 .1 .1 .1 .1 .1 .1 .1 .1 .0; filterOctaves = k .1 .1 .1 .1 .1 .1 .1 .1 .1 .1 }, y .1);
   only = λ f h s.
-      let x = line-only designParts DesignPartsFit l b found v next e p (f .rate, (f .max, (f .mode, (f .unison, (f .width, (f .a, (f .d, (f .s, (f .r, (f .glide, (f .«vibrato_rate», (f .«vibrato_cents», (f .«tremolo_rate», (f .«tremolo_depth», (f .«filter_rate», (f .«filter_octaves», 0)))))))))))))))) (within (h .rate), (within (h .max), (h .mode, (within (h .unison), (h .width, (h .a, (h .d, (h .s, (h .r, (h .glide, (h .vibratoRate, (h .vibratoCents, (h .tremoloRate, (h .tremoloDepth, (h .filterRate, (h .filterOctaves, refl)))))))))))))))) s in
+      let v₁ : DesignParts = (f .rate, (f .max, (f .mode, (f .unison, (f .width, (f .a, (f .d, (f .s, (f .r, (f .glide, (f .«vibrato_rate», (f .«vibrato_cents», (f .«tremolo_rate», (f .«tremolo_depth», (f .«filter_rate», f .«filter_octaves»))))))))))))))) in
+      let x = line-only designParts DesignPartsFit l b found v next e p v₁ (within (h .rate), (within (h .max), (h .mode, (within (h .unison), (h .width, (h .a, (h .d, (h .s, (h .r, (h .glide, (h .vibratoRate, (h .vibratoCents, (h .tremoloRate, (h .tremoloDepth, (h .filterRate, h .filterOctaves))))))))))))))) s in
       (x .0, ap designOf (x .1));
 }
 

@@ -7,9 +7,10 @@ use lib.ListN.{length, drop}
 use Rattle.text.specs.declared.Read.{Read}
 use Rattle.text.specs.Text.{NoDigit}
 use Rattle.text.specs.Read.{Any}
-use Rattle.forms.specs.Forms.{Below32, decimalPart, modePart, wordPart, designText, onText, DesignFits, OnFits}
+use Rattle.forms.specs.Forms.{Below32, space, thenAmp, thenGlide, thenMod, closeDesign, decimalPart, modePart, wordPart, designText, onText, DesignFits, OnFits}
 use Rattle.forms.specs.declared.DesignForm.{DesignForm}
 use Rattle.forms.specs.declared.OnForm.{OnForm}
+use Rattle.forms.specs.declared.SoundRead.{SoundRead}
 use Rattle.forms.specs.declared.DesignRead.{DesignRead}
 use Rattle.forms.specs.declared.OnRead.{OnRead}
 
@@ -61,6 +62,45 @@ LedMode lead = LedAs (modePart lead) (λ v. v < 3) Any
 
 abbrev pub LedWord : List ℕ → List ℕ → Read → Read → Type 0
 LedWord lead = LedAs (wordPart lead) Below32 Any
+
+-- the second half of a design line: amp, glide and mod, each number a word, and the end
+abbrev pub Sound : Type 0
+Sound = ℕ × (ℕ × (ℕ × (ℕ × (ℕ × (ℕ × (ℕ × (ℕ × (ℕ × (ℕ × (ℕ))))))))))
+
+abbrev pub soundText : Sound → List ℕ
+soundText p =
+    wordPart thenAmp (p .0) ++ (
+    wordPart space (p .1 .0) ++ (
+    wordPart space (p .1 .1 .0) ++ (
+    wordPart space (p .1 .1 .1 .0) ++ (
+    wordPart thenGlide (p .1 .1 .1 .1 .0) ++ (
+    wordPart thenMod (p .1 .1 .1 .1 .1 .0) ++ (
+    wordPart space (p .1 .1 .1 .1 .1 .1 .0) ++ (
+    wordPart space (p .1 .1 .1 .1 .1 .1 .1 .0) ++ (
+    wordPart space (p .1 .1 .1 .1 .1 .1 .1 .1 .0) ++ (
+    wordPart space (p .1 .1 .1 .1 .1 .1 .1 .1 .1 .0) ++ (
+    wordPart space (p .1 .1 .1 .1 .1 .1 .1 .1 .1 .1) ++ (
+    closeDesign)))))))))))
+
+abbrev pub SoundFits : Sound → Type 0
+SoundFits p =
+    Below32 (p .0) × (
+    Below32 (p .1 .0) × (
+    Below32 (p .1 .1 .0) × (
+    Below32 (p .1 .1 .1 .0) × (
+    Below32 (p .1 .1 .1 .1 .0) × (
+    Below32 (p .1 .1 .1 .1 .1 .0) × (
+    Below32 (p .1 .1 .1 .1 .1 .1 .0) × (
+    Below32 (p .1 .1 .1 .1 .1 .1 .1 .0) × (
+    Below32 (p .1 .1 .1 .1 .1 .1 .1 .1 .0) × (
+    Below32 (p .1 .1 .1 .1 .1 .1 .1 .1 .1 .0) × (
+    Below32 (p .1 .1 .1 .1 .1 .1 .1 .1 .1 .1)))))))))))
+
+abbrev pub soundOf : SoundRead → Sound
+soundOf r = (r .a, (r .d, (r .s, (r .r, (r .glide, (r .«vibrato_rate», (r .«vibrato_cents», (r .«tremolo_rate», (r .«tremolo_depth», (r .«filter_rate», r .«filter_octaves»))))))))))
+
+abbrev pub SoundReadAs : List ℕ → Read → SoundRead → Type 0
+SoundReadAs line from r = Led soundText SoundFits AtEnd line (from .ok) (from .next) (r .ok) (soundOf r) (r .next)
 
 -- a whole line of one kind
 pub record DesignReadAs (line : List ℕ) (r : DesignRead) : Type 0 where

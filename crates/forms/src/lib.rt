@@ -5,7 +5,7 @@ ghost use mathlib.Core.List.{[]};
 ghost use Prim.Native.Nat.{_<_};
 ghost use Rattle.text.specs.Read.{Any};
 ghost use Rattle.forms.specs.Forms.{modeText, FormAs};
-ghost use Rattle.forms.specs.Led.{LedAs, LedWords, LedEnd, LedDecimal, LedMode, LedWord, DesignReadAs, OnReadAs};
+ghost use Rattle.forms.specs.Led.{LedAs, LedWords, LedEnd, LedDecimal, LedMode, LedWord, SoundReadAs, DesignReadAs, OnReadAs};
 use text::Read;
 
 // The numbers of a design line, in its order; floats as their bits.
@@ -40,6 +40,23 @@ pub enum Form {
     Design(DesignForm),
     On(OnForm),
     Voices,
+}
+
+// The numbers of a design line from `amp` on.
+struct SoundRead {
+    ok: bool,
+    next: usize,
+    a: u64,
+    d: u64,
+    s: u64,
+    r: u64,
+    glide: u64,
+    vibrato_rate: u64,
+    vibrato_cents: u64,
+    tremolo_rate: u64,
+    tremolo_depth: u64,
+    filter_rate: u64,
+    filter_octaves: u64,
 }
 
 struct DesignRead {
@@ -140,16 +157,11 @@ fn read_on(line: &[u8]) -> OnRead
     }
 }
 
-fn read_design(line: &[u8]) -> DesignRead
-    ensures { λ r. ⌜ DesignReadAs (now (line .entry)) r ⌝ }
+// The second half of a design line, to the line's end.
+fn read_sound(line: &[u8], from: Read) -> SoundRead
+    ensures { λ r. ⌜ SoundReadAs (now (line .entry)) from r ⌝ }
 {
-    let begin = read_at(true, 0, 0);
-    let rate = led_decimal(line, begin, b"(design (rate ", MOST);
-    let max = led_decimal(line, rate, b") (max ", MOST);
-    let mode = led_mode(line, max, b") (mode ");
-    let unison = led_decimal(line, mode, b") (unison ", MOST);
-    let width = led_word(line, unison, b" ");
-    let a = led_word(line, width, b") (amp ");
+    let a = led_word(line, from, b") (amp ");
     let d = led_word(line, a, b" ");
     let s = led_word(line, d, b" ");
     let r = led_word(line, s, b" ");
@@ -161,25 +173,52 @@ fn read_design(line: &[u8]) -> DesignRead
     let filter_rate = led_word(line, tremolo_depth, b" ");
     let filter_octaves = led_word(line, filter_rate, b" ");
     let end = led_end(line, filter_octaves, b"))");
-    DesignRead {
+    SoundRead {
         ok: end.ok,
+        next: end.next,
+        a: a.value,
+        d: d.value,
+        s: s.value,
+        r: r.value,
+        glide: glide.value,
+        vibrato_rate: vibrato_rate.value,
+        vibrato_cents: vibrato_cents.value,
+        tremolo_rate: tremolo_rate.value,
+        tremolo_depth: tremolo_depth.value,
+        filter_rate: filter_rate.value,
+        filter_octaves: filter_octaves.value,
+    }
+}
+
+fn read_design(line: &[u8]) -> DesignRead
+    ensures { λ r. ⌜ DesignReadAs (now (line .entry)) r ⌝ }
+{
+    let begin = read_at(true, 0, 0);
+    let rate = led_decimal(line, begin, b"(design (rate ", MOST);
+    let max = led_decimal(line, rate, b") (max ", MOST);
+    let mode = led_mode(line, max, b") (mode ");
+    let unison = led_decimal(line, mode, b") (unison ", MOST);
+    let width = led_word(line, unison, b" ");
+    let sound = read_sound(line, width);
+    DesignRead {
+        ok: sound.ok,
         form: DesignForm {
             rate: rate.value,
             max: max.value,
             mode: mode.value,
             unison: unison.value,
             width: width.value,
-            a: a.value,
-            d: d.value,
-            s: s.value,
-            r: r.value,
-            glide: glide.value,
-            vibrato_rate: vibrato_rate.value,
-            vibrato_cents: vibrato_cents.value,
-            tremolo_rate: tremolo_rate.value,
-            tremolo_depth: tremolo_depth.value,
-            filter_rate: filter_rate.value,
-            filter_octaves: filter_octaves.value,
+            a: sound.a,
+            d: sound.d,
+            s: sound.s,
+            r: sound.r,
+            glide: sound.glide,
+            vibrato_rate: sound.vibrato_rate,
+            vibrato_cents: sound.vibrato_cents,
+            tremolo_rate: sound.tremolo_rate,
+            tremolo_depth: sound.tremolo_depth,
+            filter_rate: sound.filter_rate,
+            filter_octaves: sound.filter_octaves,
         },
     }
 }

@@ -1,37 +1,87 @@
-// States made by hand. Voices have two copies, and the next handle is 10.
+// States made by hand: each line changes one thing, whatever state that gives.
 
-use crate::play;
 use design::InstrumentDesign;
-use design::PlayMode;
 use envelope::EnvGen;
 use envelope::Stage;
 use instrument::Instrument;
+use lines::Form;
 use note::Note;
 use voice::Voice;
 
-pub fn fresh(design: InstrumentDesign) -> Instrument {
-    let new = Instrument::new(design);
-    let mut s = new.state;
-    s.next_handle = 10;
+// The number of forms below.
+pub const NONE: usize = 13;
+
+// Next handle, frames of the open block, number of voices, number of held notes; the held notes all 60, or from 0 on;
+// max, rate and glide of the design; a voice more of note 60; of the last voice the flag `releasing`, the stage and the
+// number of copies.
+pub fn read(line: &[u8]) -> Form {
+    lines::read(
+        line,
+        b"(next H)\n(frames D)\n(table D)\n(held D)\n(same)\n(each)\n(max D)\n(rate D)\n(glide W)\n(voice H F)\n(flag F)\n(idle)\n(unison D)\n",
+    )
+}
+
+fn counted(mut s: Instrument, number: usize, n: u64) -> Instrument {
+    match number {
+        0 => s.next_handle = n,
+        1 => s.frames = n as usize,
+        2 => s.voice_count = n as usize,
+        _ => s.held_count = n as usize,
+    }
     s
 }
 
-pub fn poly(max: u32) -> Instrument {
-    fresh(play::design(max, PlayMode::Poly, 2, 1.0))
+// The notes from 0 to 255.
+fn each_note() -> [Note; 256] {
+    let mut held = [Note(0); 256];
+    let mut i: usize = 0;
+    while i < 256 {
+        held[i] = Note(i as u8);
+        i += 1;
+    }
+    held
 }
 
-pub fn mono(max: u32) -> Instrument {
-    fresh(play::design(max, PlayMode::Mono { legato: false }, 2, 1.0))
+fn notes(mut s: Instrument, number: usize) -> Instrument {
+    if number == 5 {
+        let held = each_note();
+        s.held = held;
+        return s;
+    }
+    let held = [Note(60); 256];
+    s.held = held;
+    s
 }
 
-// A voice of note 60 that sounds.
-pub fn voice(s: Instrument, handle: u64) -> Voice {
-    let design = s.design;
-    voice::new_voice(design, 1.0, 1.0, handle, 60, 1.0)
+fn designed(mut d: InstrumentDesign, number: usize, n: u64) -> InstrumentDesign {
+    match number {
+        6 => d.max_voices = lines::word_of(n),
+        7 => d.sample_rate = lines::word_of(n),
+        _ => d.glide = lines::float_of(n),
+    }
+    d
 }
 
-// A voice more in the table.
-pub fn with(mut s: Instrument, v: Voice) -> Instrument {
+fn redesigned(mut s: Instrument, number: usize, n: u64) -> Instrument {
+    let d = designed(s.design, number, n);
+    s.design = d;
+    s
+}
+
+fn released(mut v: Voice) -> Voice {
+    let env = v.env.gate_off();
+    v.env = env;
+    v.releasing = true;
+    v
+}
+
+// A voice that sounds, or one that releases.
+fn voice(design: InstrumentDesign, handle: u64, releases: u64) -> Voice {
+    let v = voice::new_voice(design, 1.0, 1.0, handle, 60, 1.0);
+    if releases == 1 { released(v) } else { v }
+}
+
+fn with(mut s: Instrument, v: Voice) -> Instrument {
     let vs = s.voices;
     let n = s.voice_count;
     let ws = voices::push(vs, n, v);
@@ -42,67 +92,7 @@ pub fn with(mut s: Instrument, v: Voice) -> Instrument {
     s
 }
 
-pub fn sounding(s: Instrument, handle: u64) -> Instrument {
-    with(s, voice(s, handle))
-}
-
-pub fn released(mut v: Voice) -> Voice {
-    let env = v.env.gate_off();
-    v.env = env;
-    v.releasing = true;
-    v
-}
-
-pub fn releasing(s: Instrument, handle: u64) -> Instrument {
-    with(s, released(voice(s, handle)))
-}
-
-// One voice that releases and one that sounds.
-pub fn pair(s: Instrument) -> Instrument {
-    sounding(releasing(s, 3), 5)
-}
-
-fn either(s: Instrument, handle: u64, sounds: bool) -> Instrument {
-    if sounds {
-        sounding(s, handle)
-    } else {
-        releasing(s, handle)
-    }
-}
-
-// A table of 64 voices, half of them releasing.
-pub fn full() -> Instrument {
-    let mut s = poly(32);
-    let mut h: u64 = 1;
-    while h < 65 {
-        s = either(s, h, h < 33);
-        h += 1;
-    }
-    s.next_handle = 65;
-    s
-}
-
-// The notes from 0 to 255.
-fn notes() -> [Note; 256] {
-    let mut held = [Note(0); 256];
-    let mut i: usize = 0;
-    while i < 256 {
-        held[i] = Note(i as u8);
-        i += 1;
-    }
-    held
-}
-
-// Every note is held, in Mono.
-pub fn all_held() -> Instrument {
-    let mut s = pair(mono(4));
-    let held = notes();
-    s.held = held;
-    s.held_count = 256;
-    s
-}
-
-pub fn idle(e: EnvGen) -> EnvGen {
+fn idle(e: EnvGen) -> EnvGen {
     EnvGen {
         a: e.a,
         d: e.d,
@@ -112,5 +102,45 @@ pub fn idle(e: EnvGen) -> EnvGen {
         stage: Stage::Idle,
         level: e.level,
         rel_from: e.rel_from,
+    }
+}
+
+fn changed(mut v: Voice, number: usize, n: u64) -> Voice {
+    if number == 10 {
+        v.releasing = n == 1;
+        return v;
+    }
+    if number == 11 {
+        let env = idle(v.env);
+        v.env = env;
+        return v;
+    }
+    v.copy_count = n as usize;
+    v
+}
+
+fn last_changed(mut s: Instrument, number: usize, n: u64) -> Instrument {
+    let count = s.voice_count;
+    if count == 0 {
+        return s;
+    }
+    if count > 64 {
+        return s;
+    }
+    let v = changed(s.voices[count - 1], number, n);
+    s.voices[count - 1] = v;
+    s
+}
+
+// By the places in the list of forms.
+pub fn made(s: Instrument, form: Form) -> Instrument {
+    let v = form.values;
+    let k = form.number;
+    match k {
+        0..=3 => counted(s, k, v[0]),
+        4..=5 => notes(s, k),
+        6..=8 => redesigned(s, k, v[0]),
+        9 => with(s, voice(s.design, v[0], v[1])),
+        _ => last_changed(s, k, v[0]),
     }
 }

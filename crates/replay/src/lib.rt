@@ -1,27 +1,27 @@
 // The replay format: a line and a session in, the printed bytes and the next session out.
-// Every number is read and printed by `text`, and every reply is the instrument's, the envelope's or the reader's own.
+// A design, an `on` and `(voices)` are read by `forms`, every other line by the list of forms in `ask`; every reply is the
+// instrument's, the envelope's or the reader's own.
 
-use design::Adsr;
-use design::InstrumentDesign;
-use design::Modulation;
-use design::PlayMode;
+use ask::ENVS;
 use envelope::EnvGen;
 use instrument::Instrument;
-use parse::Line;
 use play::Played;
 use ticks::Gated;
 
-mod parse;
+mod ask;
+mod blocks;
+mod calls;
 mod play;
-mod put;
+mod said;
 mod show;
 mod steps;
-mod sums;
 mod ticks;
 
 pub struct Session {
     pub instrument: Instrument,
     pub env: EnvGen,
+    // Whether a curve and an output are printed by their numbers, not their checksum.
+    pub numbers: bool,
 }
 
 // The next session, and the place behind what was printed.
@@ -30,44 +30,18 @@ pub struct Answered {
     pub at: usize,
 }
 
-// A design that is refused.
-fn no_design() -> InstrumentDesign {
-    InstrumentDesign {
-        sample_rate: 0,
-        max_voices: 0,
-        mode: PlayMode::Poly,
-        unison: 0,
-        unison_width: 0.0,
-        amp: Adsr {
-            a: 0.0,
-            d: 0.0,
-            s: 0.0,
-            r: 0.0,
-        },
-        glide: 0.0,
-        modulation: Modulation {
-            vibrato_rate: 0.0,
-            vibrato_cents: 0.0,
-            tremolo_rate: 0.0,
-            tremolo_depth: 0.0,
-            filter_rate: 0.0,
-            filter_octaves: 0.0,
-        },
-    }
-}
-
 impl Session {
     // An instrument and an envelope of refused starts.
     pub fn new() -> Session {
-        let new = Instrument::new(no_design());
+        let new = Instrument::new(ask::no_design());
         let instrument = new.state;
         let made = EnvGen::new(0.0, 0.0, 0.0, 0.0, 0);
         let env = made.env;
-        Session { instrument, env }
-    }
-
-    fn same(self, at: usize) -> Answered {
-        Answered { session: self, at }
+        Session {
+            instrument,
+            env,
+            numbers: false,
+        }
     }
 
     fn played(mut self, p: Played) -> Answered {
@@ -88,8 +62,8 @@ impl Session {
         }
     }
 
-    // Prints the answer to a line into `out` from `at` on. One line prints at most 34,761 bytes; what finds no room is
-    // left out. A block wants at most 524,289 samples and 2,049 places of stereo.
+    // Prints the answer to a line into `out` from `at` on. One line prints at most 34,761 bytes, unless it prints
+    // numbers; what finds no room is left out. A block wants at most 524,289 samples and 2,049 places of stereo.
     pub fn answer(
         self,
         line: &[u8],
@@ -98,21 +72,11 @@ impl Session {
         out: &mut [u8],
         at: usize,
     ) -> Answered {
-        let mut stream = [0u8; 100];
-        let asked = parse::parse(line, &mut stream);
-        let s = self.instrument;
-        let env = self.env;
-        match asked {
-            Line::Unread => self.same(text::put_literal(out, at, b"(unread)\n")),
-            Line::Design(design) => self.played(play::start(design, out, at)),
-            Line::Call(call) => self.played(play::play(s, call, out, at)),
-            Line::Plan(plan) => self.played(play::plan(s, plan, samples, out, at)),
-            Line::Mix(mix) => self.played(play::mix(s, mix, samples, stereo, out, at)),
-            Line::Query(query) => self.same(show::show(s, query, out, at)),
-            Line::Env(call) => self.gated(ticks::gate(env, call, out, at)),
-            Line::Midi(cursor, count) => {
-                self.same(steps::steps(&stream, count, cursor, out, at))
-            }
+        let form = ask::read(line);
+        if form.number < ENVS {
+            return self.gated(ticks::gate(self.env, form, out, at));
         }
+        let s = self.instrument;
+        self.played(play::play(s, line, form, self.numbers, samples, stereo, out, at))
     }
 }

@@ -1,48 +1,12 @@
 // The steps over a MIDI stream, one a line.
 
-use crate::put;
+ghost use mathlib.Core.Path.{_≡_};
+ghost use lib.ListN.{length};
+use crate::said;
+use lines::Form;
+use lines::byte_of;
 use midi::Answer;
 use midi::Cursor;
-use text::put_decimal;
-use text::put_literal;
-
-fn on(out: &mut [u8], at: usize, note: u8, velocity: f32) -> usize {
-    let a = put_literal(out, at, b"(on ");
-    let b = put_decimal(out, a, note as u64);
-    let c = put::float(out, b, velocity);
-    put::close(out, c)
-}
-
-// Where the cursor stands.
-fn stopped(out: &mut [u8], at: usize, cursor: Cursor) -> usize {
-    let a = put::number(out, at, cursor.place as u64);
-    let b = put::byte(out, a, cursor.status);
-    put::close(out, b)
-}
-
-fn end(out: &mut [u8], at: usize, cursor: Cursor) -> usize {
-    let next = put_literal(out, at, b"(end");
-    stopped(out, next, cursor)
-}
-
-fn refused(out: &mut [u8], at: usize, number: u8, cursor: Cursor) -> usize {
-    let a = put_literal(out, at, b"(refused ");
-    let b = put_decimal(out, a, number as u64);
-    stopped(out, b, cursor)
-}
-
-fn step(out: &mut [u8], at: usize, answer: Answer, cursor: Cursor) -> usize {
-    match answer {
-        Answer::On(note, velocity) => on(out, at, note, velocity),
-        Answer::Off(note) => put::form(out, at, b"(off ", note as u64),
-        Answer::Pedal(down) => put::form(out, at, b"(pedal ", put::flag(down)),
-        Answer::AllOff => put_literal(out, at, b"(alloff)\n"),
-        Answer::Bend(value) => put::form(out, at, b"(bend ", value as u64),
-        Answer::Other => put_literal(out, at, b"(other)\n"),
-        Answer::End => end(out, at, cursor),
-        Answer::Refused(number) => refused(out, at, number, cursor),
-    }
-}
 
 fn is_last(answer: Answer) -> bool {
     match answer {
@@ -61,7 +25,7 @@ fn walk(stream: &[u8], from: Cursor, out: &mut [u8], at: usize) -> usize {
         let outcome = midi::step(stream, cursor);
         let answer = outcome.answer;
         cursor = outcome.cursor;
-        next = step(out, next, answer, cursor);
+        next = said::say(out, next, said::of_step(answer, cursor));
         if is_last(answer) {
             return next;
         }
@@ -70,11 +34,39 @@ fn walk(stream: &[u8], from: Cursor, out: &mut [u8], at: usize) -> usize {
     next
 }
 
-// The steps over the first `count` bytes.
-pub fn steps(stream: &[u8], count: usize, from: Cursor, out: &mut [u8], at: usize) -> usize {
-    if count <= stream.len() {
-        walk(&stream[..count], from, out, at)
-    } else {
-        at
+fn cursor_of(v: [u64; 5]) -> Cursor {
+    Cursor {
+        place: v[0] as usize,
+        status: byte_of(v[1]),
     }
+}
+
+// The bytes of a stream from `from` on, as many as there are.
+fn bytes(line: &[u8], from: usize) -> [u8; 100]
+    ensures { λ r. ⌜ length r ≡ 100 ⌝ }
+{
+    let mut stream = [0u8; 100];
+    let mut next = from;
+    let mut i: usize = 0;
+    while i < 100 {
+        let r = lines::pair(line, next);
+        stream[i] = byte_of(r.value);
+        next = r.next;
+        i += 1;
+    }
+    stream
+}
+
+// The steps over the bytes of a line that ends in `count` pairs of digits and a bracket.
+pub fn steps(line: &[u8], form: Form, out: &mut [u8], at: usize) -> usize {
+    let v = form.values;
+    let count = v[2] as usize;
+    if 100 < count {
+        return at;
+    }
+    if line.len() <= 2 * count {
+        return at;
+    }
+    let stream = bytes(line, line.len() - 2 * count - 1);
+    walk(&stream[..count], cursor_of(v), out, at)
 }

@@ -1,17 +1,22 @@
 // Calls of the envelope that stands by itself.
 
-use crate::parse::EnvCall;
-use crate::put;
-use crate::sums;
-use design::Adsr;
+use crate::said;
 use envelope::EnvGen;
-use envelope::EnvReply;
 use envelope::Stage;
-use text::put_literal;
+use lines::Form;
+use lines::bits;
+use lines::float_of;
+use lines::sums;
+use lines::word_of;
 
 pub struct Gated {
     pub env: EnvGen,
     pub at: usize,
+}
+
+struct Turned {
+    env: EnvGen,
+    said: Form,
 }
 
 struct Ticked {
@@ -41,51 +46,69 @@ fn stage_number(stage: Stage) -> u64 {
     }
 }
 
-fn tick(e: EnvGen, n: u32, out: &mut [u8], at: usize) -> Gated {
+fn tick(e: EnvGen, n: u32) -> Turned {
     let t = ticks(e, n);
     let env = t.env;
     let stage = env.stage;
-    let a = put_literal(out, at, b"(ticked");
-    let b = put::sum(out, a, t.sum);
-    let c = put::number(out, b, stage_number(stage));
-    let d = put::float(out, c, env.level);
-    let f = put::float(out, d, env.rel_from);
-    let g = put::number(out, f, put::flag(env.faded()));
-    Gated {
+    let faded = lines::flag(env.faded());
+    let values = [
+        t.sum,
+        stage_number(stage),
+        bits(env.level),
+        bits(env.rel_from),
+        faded,
+    ];
+    Turned {
         env,
-        at: put::close(out, g),
+        said: Form {
+            number: said::TICKED,
+            values,
+        },
     }
 }
 
-fn new(rate: u32, amp: Adsr, out: &mut [u8], at: usize) -> Gated {
-    let made = EnvGen::new(amp.a, amp.d, amp.s, amp.r, rate);
+fn new(v: [u64; 5]) -> Turned {
+    let made = EnvGen::new(
+        float_of(v[1]),
+        float_of(v[2]),
+        float_of(v[3]),
+        float_of(v[4]),
+        word_of(v[0]),
+    );
     let env = made.env;
     let reply = made.reply;
-    match reply {
-        EnvReply::Ready => Gated {
-            env,
-            at: put_literal(out, at, b"(ready)\n"),
-        },
-        EnvReply::Refused(n) => Gated {
-            env,
-            at: put::refused(out, at, n),
-        },
+    Turned {
+        env,
+        said: said::of_env(reply),
     }
 }
 
-fn done(env: EnvGen, out: &mut [u8], at: usize) -> Gated {
+fn done(env: EnvGen) -> Turned {
+    Turned {
+        env,
+        said: said::done(),
+    }
+}
+
+// By the places in the list of forms.
+fn turn(env: EnvGen, form: Form) -> Turned {
+    let v = form.values;
+    let k = form.number;
+    match k {
+        0 => new(v),
+        1 => done(env.gate_on()),
+        2 => done(env.gate_off()),
+        3 => done(env.kill()),
+        _ => tick(env, word_of(v[0])),
+    }
+}
+
+pub fn gate(e: EnvGen, form: Form, out: &mut [u8], at: usize) -> Gated {
+    let t = turn(e, form);
+    let env = t.env;
+    let said = t.said;
     Gated {
         env,
-        at: put_literal(out, at, b"(done)\n"),
-    }
-}
-
-pub fn gate(env: EnvGen, call: EnvCall, out: &mut [u8], at: usize) -> Gated {
-    match call {
-        EnvCall::New(rate, amp) => new(rate, amp, out, at),
-        EnvCall::On => done(env.gate_on(), out, at),
-        EnvCall::Off => done(env.gate_off(), out, at),
-        EnvCall::Kill => done(env.kill(), out, at),
-        EnvCall::Tick(n) => tick(env, n, out, at),
+        at: said::say(out, at, said),
     }
 }

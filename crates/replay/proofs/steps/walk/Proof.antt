@@ -1,13 +1,12 @@
 -- `steps::walk` is safe and ends: the turns count down.
 use mathlib.Core.Path.{_≡_}
-use Prim.Native.Nat.{_≤_, _-_}
 use lib.ListN.{length}
 use borrow.Author.Needs.{needs}
 use Rattle.replay.proofs.steps.walk.Statement.{statement}
 use Rattle.replay.proofs.steps.walk.Tie as tie
 
 abbrev Inv-loop : tie.InvT-loop
-Inv-loop stream out₀ at cursor₀ next₀ turns₀ out cursor next turns = (length out ≡ length out₀)
+Inv-loop stream out₀ at cursor₀ next₀ turns₀ out cursor next turns = length out ≡ length out₀
 
 abbrev μ-loop : tie.MeasureT-loop
 μ-loop stream out₀ at cursor₀ next₀ turns₀ out cursor next turns = turns
@@ -18,8 +17,11 @@ loop-holds c = search needs
 step-requires : tie.Need-step-requires Inv-loop μ-loop
 step-requires c κs = search needs
 
-step-requires-2 : tie.Need-step-requires-2 Inv-loop μ-loop
-step-requires-2 c κs = search needs
+of-step-requires : tie.Need-of-step-requires Inv-loop μ-loop
+of-step-requires c κs = search needs
+
+say-requires : tie.Need-say-requires Inv-loop μ-loop
+say-requires c κs = search needs
 
 is-last-requires : tie.Need-is-last-requires Inv-loop μ-loop
 is-last-requires c κs = search needs
@@ -53,7 +55,8 @@ walk-spec =
     μ-loop
     loop-holds
     step-requires
-    step-requires-2
+    of-step-requires
+    say-requires
     is-last-requires
     same-length
     returns
