@@ -330,22 +330,20 @@ impl Instrument {
     }
 
     // Sustain pedal: on its release every sustained voice is released.
-    pub fn set_sustain(self, down: bool) -> Outcome
+    pub fn set_sustain(mut self, down: bool) -> Outcome
         ensures { λ r. ⌜ CallAs self (Call.pedal down) r ⌝ }
     {
         let barred = self.barred();
         if barred != 0 {
             return refused(self, barred);
         }
+        if down {
+            self.sustain = true;
+            return answered(Reply::Done, self);
+        }
         let vs = self.voices;
         let n = self.voice_count;
         let held = self.holding();
-        if down {
-            return answered(
-                Reply::Done,
-                self.placed(vs, n, self.next_handle, true, held),
-            );
-        }
         let ws = voices::change_all(vs, n, VoiceChange::Lift);
         answered(
             Reply::Done,
