@@ -38,7 +38,8 @@ pub fn step(stream: &[u8], from: Cursor) -> (Step, Cursor) {
         return (Step::Refused(9), from);
     }
     let mut status = from.status;
-    let mut data = Vec::new();
+    // The first of two data bytes, once it was read.
+    let mut first = None;
     let mut inside = false;
     for (i, &byte) in stream.iter().enumerate().skip(from.place) {
         match byte {
@@ -46,23 +47,23 @@ pub fn step(stream: &[u8], from: Cursor) -> (Step, Cursor) {
             0xF0..=0xF7 => {
                 status = 0;
                 inside = false;
+                first = None;
             }
             0x80..=0xEF => {
                 status = byte;
                 inside = true;
-                data.clear();
+                first = None;
             }
             _ if status == 0 => {}
             _ => {
-                if !inside {
-                    inside = true;
-                    data.clear();
-                }
-                data.push(byte);
-                let wanted = if matches!(status >> 4, 0xC | 0xD) { 1 } else { 2 };
-                if data.len() == wanted {
-                    let e = event(status, data[0], data.get(1).copied().unwrap_or(0));
-                    return (Step::Event(e), Cursor { place: i + 1, status });
+                inside = true;
+                let one = matches!(status >> 4, 0xC | 0xD);
+                match first {
+                    None if !one => first = Some(byte),
+                    _ => {
+                        let e = event(status, first.unwrap_or(byte), byte);
+                        return (Step::Event(e), Cursor { place: i + 1, status });
+                    }
                 }
             }
         }

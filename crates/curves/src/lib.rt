@@ -1,15 +1,16 @@
 // Plan's pass over the table: each copy writes its pitch numbers (the Rust's `glide_block`, voice by voice).
 
 ghost use mathlib.Core.Path.{_≡_};
+ghost use mathlib.Core.Bool.{true, false};
 ghost use mathlib.Core.List.{map, flatMap};
-ghost use Prim.Native.Nat.{_*_, min};
-ghost use lib.ListN.{length, take};
-ghost use Rattle.stream.specs.Pitch.{glided as glidedOf, curve as curveOf};
+ghost use Prim.Native.Nat.{ℕ, _+_, _*_, _≤_, min};
+ghost use lib.ListN.{length, take, replicate};
+ghost use Rattle.stream.specs.Pitch.{pitched, glideStep, glided as glidedOf, curve as curveOf, GlidedOver};
 ghost use Rattle.model.specs.Voices.{withCopies, copiesIn};
 ghost use Rattle.voice.specs.View.{shown, seen};
 ghost use Rattle.voice.specs.Changes.{onSeen};
 ghost use Rattle.voices.specs.View.{seenFirst, voicesOf};
-ghost use Rattle.curves.specs.Glides.{GlidedTable, GlidedAll};
+ghost use Rattle.curves.specs.Glides.{pitchedFour, FourGlided, GlidedTable, GlidedAll};
 use stream::UnisonCopy;
 use voice::Voice;
 
@@ -17,6 +18,119 @@ fn smaller(a: usize, b: usize) -> usize
     ensures { λ r. ⌜ r ≡ min a b ⌝ }
 {
     if a < b { a } else { b }
+}
+
+// Whether two floats are the same. A comparison would take the two zeros for one.
+fn same(a: f32, b: f32) -> bool
+    ensures { λ r. ⌜ (r ≡ true → a ≡ b) ⌝ }
+{
+    float32::to_bits(a) == float32::to_bits(b)
+}
+
+// Whether the next sample leaves the pitch where it is; so do all later ones.
+fn steady(c: UnisonCopy) -> bool
+    ensures { λ r. ⌜ (r ≡ true → glideStep c ≡ c .pitch) ⌝ }
+{
+    same(c.pitch + (c.pitch_target - c.pitch) * c.glide, c.pitch)
+}
+
+// One number in every place.
+fn hold(x: f32, out: &mut [f32])
+    ensures { λ _. ⌜ now (out .exit) ≡ replicate (length (now (out .entry))) x ⌝ }
+{
+    let mut i: usize = 0;
+    while i < out.len() {
+        out[i] = x;
+        i += 1;
+    }
+}
+
+// The copy's own glide, without the sums where they change nothing: most copies stand at their target.
+fn glide_one(c: UnisonCopy, out: &mut [f32]) -> UnisonCopy
+    ensures { λ r. ⌜ GlidedOver c (now (out .entry)) (now (out .exit)) r ⌝ }
+{
+    if steady(c) {
+        hold(c.pitch * c.bend, out);
+        return c;
+    }
+    c.glide_block(out)
+}
+
+// One of four copies that glide side by side.
+type Lane = UnisonCopy;
+
+struct Four {
+    a: Lane,
+    b: Lane,
+    c: Lane,
+    d: Lane,
+}
+
+fn at_pitch(mut copy: UnisonCopy, pitch: f32) -> UnisonCopy
+    ensures { λ r. ⌜ r ≡ pitched copy pitch (copy .«pitch_target») (copy .glide) ⌝ }
+{
+    copy.pitch = pitch;
+    copy
+}
+
+fn at_pitches(a: Lane, b: Lane, c: Lane, d: Lane, pa: f32, pb: f32, pc: f32, pd: f32) -> Four
+    ensures { λ r. ⌜ r ≡ pitchedFour a b c d pa pb pc pd ⌝ }
+{
+    Four {
+        a: at_pitch(a, pa),
+        b: at_pitch(b, pb),
+        c: at_pitch(c, pc),
+        d: at_pitch(d, pd),
+    }
+}
+
+// The glides of four copies side by side, n numbers each from `at` on: in one glide each sum waits for the one before.
+fn glide_four(a: Lane, b: Lane, c: Lane, d: Lane, n: usize, at: usize, curve: &mut [f32]) -> Four
+    requires { ⌜ at + n + n + n + n ≤ length (now curve) ⌝ }
+    ensures { λ r. ⌜ FourGlided n at a b c d (now (curve .entry)) (now (curve .exit)) r ⌝ }
+{
+    let bt = at + n;
+    let ct = bt + n;
+    let dt = ct + n;
+    let ta = a.pitch_target;
+    let tb = b.pitch_target;
+    let tc = c.pitch_target;
+    let td = d.pitch_target;
+    let ga = a.glide;
+    let gb = b.glide;
+    let gc = c.glide;
+    let gd = d.glide;
+    let ba = a.bend;
+    let bb = b.bend;
+    let bc = c.bend;
+    let bd = d.bend;
+    let mut pa = a.pitch;
+    let mut pb = b.pitch;
+    let mut pc = c.pitch;
+    let mut pd = d.pitch;
+    let mut i: usize = 0;
+    while i < n {
+        pa = pa + (ta - pa) * ga;
+        pb = pb + (tb - pb) * gb;
+        pc = pc + (tc - pc) * gc;
+        pd = pd + (td - pd) * gd;
+        curve[at + i] = pa * ba;
+        curve[bt + i] = pb * bb;
+        curve[ct + i] = pc * bc;
+        curve[dt + i] = pd * bd;
+        i += 1;
+    }
+    at_pitches(a, b, c, d, pa, pb, pc, pd)
+}
+
+// Whether a copy goes by itself: too few are left, or its pitch stands.
+fn alone(left: usize, c: UnisonCopy) -> bool
+    ensures { λ r. ⌜ (r ≡ false → 4 ≤ left) ⌝ }
+{
+    if left < 4 {
+        return true;
+    }
+    steady(c)
 }
 
 // Each copy fills its part of the curve with its pitch numbers.
@@ -34,10 +148,28 @@ fn glide_copies(
     let mut at: usize = 0;
     let mut j: usize = 0;
     while j < n {
-        let end = at + frames;
-        cs[j] = cs[j].glide_block(&mut curve[at..end]);
-        at = end;
-        j += 1;
+        if alone(n - j, copies[j]) {
+            let end = at + frames;
+            cs[j] = glide_one(cs[j], &mut curve[at..end]);
+            at = end;
+            j += 1;
+        } else {
+            let ua = copies[j];
+            let ub = copies[j + 1];
+            let uc = copies[j + 2];
+            let ud = copies[j + 3];
+            let four = glide_four(ua, ub, uc, ud, frames, at, curve);
+            let wa = four.a;
+            let wb = four.b;
+            let wc = four.c;
+            let wd = four.d;
+            cs[j] = wa;
+            cs[j + 1] = wb;
+            cs[j + 2] = wc;
+            cs[j + 3] = wd;
+            at = at + frames + frames + frames + frames;
+            j += 4;
+        }
     }
     cs
 }
@@ -54,6 +186,38 @@ fn glide_voice(v: Voice, frames: usize, curve: &mut [f32]) -> Voice
     w
 }
 
+// Whether no copy moves.
+fn copies_stand(copies: [UnisonCopy; 8], count: usize) -> bool
+    ensures { λ r. ⌜ (r ≡ true → (frames : ℕ) → map (glidedOf frames) (take count copies) ≡ take count copies) ⌝ }
+{
+    let n = smaller(count, 8);
+    let mut j: usize = 0;
+    while j < n {
+        if !steady(copies[j]) {
+            return false;
+        }
+        j += 1;
+    }
+    true
+}
+
+// Whether the voice is the same later.
+fn stands(v: Voice) -> bool
+    ensures { λ r. ⌜ (r ≡ true → (frames : ℕ) → onSeen (withCopies (glidedOf frames)) (seen v) ≡ seen v) ⌝ }
+{
+    let copies = v.copies;
+    copies_stand(copies, v.copy_count)
+}
+
+// The numbers of a voice that stands: it need not be put back.
+fn write_voice(v: Voice, frames: usize, curve: &mut [f32])
+    requires { ⌜ frames * length (shown v .copies) ≡ length (now curve) ⌝ }
+    ensures { λ _. ⌜ now (curve .exit) ≡ flatMap (curveOf frames) (shown v .copies) ⌝ }
+{
+    let copies = v.copies;
+    glide_copies(copies, v.copy_count, frames, curve);
+}
+
 fn glide_table(vs: [Voice; 64], n: usize, frames: usize, curve: &mut [f32]) -> [Voice; 64]
     requires { ⌜ frames * copiesIn (voicesOf (seenFirst n vs)) ≡ length (now curve) ⌝ }
     ensures { λ r. ⌜ GlidedTable frames (seenFirst n vs) (seenFirst n r) (now (curve .exit)) ⌝ }
@@ -65,9 +229,15 @@ fn glide_table(vs: [Voice; 64], n: usize, frames: usize, curve: &mut [f32]) -> [
     while i < m {
         let v = ws[i];
         let end = at + frames * v.copies_shown();
-        ws[i] = glide_voice(v, frames, &mut curve[at..end]);
-        at = end;
-        i += 1;
+        if stands(v) {
+            write_voice(v, frames, &mut curve[at..end]);
+            at = end;
+            i += 1;
+        } else {
+            ws[i] = glide_voice(v, frames, &mut curve[at..end]);
+            at = end;
+            i += 1;
+        }
     }
     ws
 }

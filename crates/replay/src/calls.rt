@@ -13,6 +13,7 @@ pub fn called(s: Instrument, form: Form) -> Outcome {
     let v = form.values;
     let n = v[0];
     let k = form.number;
+    // The places of (off), (pedal), (bend), (bright), (release), (alloff) in the list of `ask`; behind it stands (on).
     match k {
         5 => s.note_off(byte_of(n)),
         6 => s.set_sustain(n == 1),

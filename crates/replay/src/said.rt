@@ -8,7 +8,47 @@ use lines::Form;
 use lines::flag;
 use midi::Cursor;
 
-// The place of `(ticked ..)` in the list of `say`.
+// The places in the list of `say`.
+const UNREAD: usize = 0;
+
+const DONE: usize = 1;
+
+const READY: usize = 2;
+
+const REFUSED: usize = 3;
+
+const STARTED: usize = 4;
+
+const SILENT: usize = 5;
+
+const KEPT: usize = 6;
+
+const OFF: usize = 7;
+
+const RELEASED: usize = 8;
+
+const ACTIVE: usize = 9;
+
+const COUNT: usize = 10;
+
+const FOUND: usize = 11;
+
+const ON: usize = 12;
+
+const PEDAL: usize = 13;
+
+const ALL_OFF: usize = 14;
+
+const BEND: usize = 15;
+
+const OTHER: usize = 16;
+
+const END: usize = 17;
+
+const TOUCHED: usize = 18;
+
+const REFUSED_AT: usize = 19;
+
 pub const TICKED: usize = 20;
 
 pub fn say(out: &mut [u8], at: usize, form: Form) -> usize {
@@ -28,43 +68,43 @@ fn form(number: usize, a: u64, b: u64, c: u64) -> Form {
 }
 
 pub fn unread() -> Form {
-    form(0, 0, 0, 0)
+    form(UNREAD, 0, 0, 0)
 }
 
 pub fn done() -> Form {
-    form(1, 0, 0, 0)
+    form(DONE, 0, 0, 0)
 }
 
 pub fn refused(n: u8) -> Form {
-    form(3, n as u64, 0, 0)
+    form(REFUSED, n as u64, 0, 0)
 }
 
 pub fn touched() -> Form {
-    form(18, 0, 0, 0)
+    form(TOUCHED, 0, 0, 0)
 }
 
 pub fn of_start(reply: DesignReply) -> Form {
     match reply {
-        DesignReply::Accepted => form(2, 0, 0, 0),
+        DesignReply::Accepted => form(READY, 0, 0, 0),
         DesignReply::Refused(n) => refused(n),
     }
 }
 
 pub fn of_env(reply: EnvReply) -> Form {
     match reply {
-        EnvReply::Ready => form(2, 0, 0, 0),
+        EnvReply::Ready => form(READY, 0, 0, 0),
         EnvReply::Refused(n) => refused(n),
     }
 }
 
 pub fn of_reply(reply: Reply) -> Form {
     match reply {
-        Reply::Started(handle, killed, taken) => form(4, handle, killed, taken),
-        Reply::Silent(handle) => form(5, handle, 0, 0),
-        Reply::Kept(handle) => form(6, handle, 0, 0),
-        Reply::Off(found) => form(7, flag(found), 0, 0),
+        Reply::Started(handle, killed, taken) => form(STARTED, handle, killed, taken),
+        Reply::Silent(handle) => form(SILENT, handle, 0, 0),
+        Reply::Kept(handle) => form(KEPT, handle, 0, 0),
+        Reply::Off(found) => form(OFF, flag(found), 0, 0),
         Reply::Done => done(),
-        Reply::Released(found) => form(8, flag(found), 0, 0),
+        Reply::Released(found) => form(RELEASED, flag(found), 0, 0),
         Reply::Planned => done(),
         Reply::Refused(n) => refused(n),
     }
@@ -72,10 +112,10 @@ pub fn of_reply(reply: Reply) -> Form {
 
 pub fn of_answer(answer: Answer) -> Form {
     match answer {
-        Answer::Active(found) => form(9, flag(found), 0, 0),
-        Answer::Voices(n) => form(10, n as u64, 0, 0),
-        Answer::Handle(_) => form(11, 1, 0, 0),
-        Answer::NoHandle => form(11, 0, 0, 0),
+        Answer::Active(found) => form(ACTIVE, flag(found), 0, 0),
+        Answer::Voices(n) => form(COUNT, n as u64, 0, 0),
+        Answer::Handle(_) => form(FOUND, 1, 0, 0),
+        Answer::NoHandle => form(FOUND, 0, 0, 0),
         Answer::Refused(n) => refused(n),
     }
 }
@@ -85,13 +125,13 @@ pub fn of_step(answer: midi::Answer, cursor: Cursor) -> Form {
     let place = cursor.place as u64;
     let status = cursor.status as u64;
     match answer {
-        midi::Answer::On(note, velocity) => form(12, note as u64, lines::bits(velocity), 0),
-        midi::Answer::Off(note) => form(7, note as u64, 0, 0),
-        midi::Answer::Pedal(down) => form(13, flag(down), 0, 0),
-        midi::Answer::AllOff => form(14, 0, 0, 0),
-        midi::Answer::Bend(value) => form(15, value as u64, 0, 0),
-        midi::Answer::Other => form(16, 0, 0, 0),
-        midi::Answer::End => form(17, place, status, 0),
-        midi::Answer::Refused(n) => form(19, n as u64, place, status),
+        midi::Answer::On(note, velocity) => form(ON, note as u64, lines::bits(velocity), 0),
+        midi::Answer::Off(note) => form(OFF, note as u64, 0, 0),
+        midi::Answer::Pedal(down) => form(PEDAL, flag(down), 0, 0),
+        midi::Answer::AllOff => form(ALL_OFF, 0, 0, 0),
+        midi::Answer::Bend(value) => form(BEND, value as u64, 0, 0),
+        midi::Answer::Other => form(OTHER, 0, 0, 0),
+        midi::Answer::End => form(END, place, status, 0),
+        midi::Answer::Refused(n) => form(REFUSED_AT, n as u64, place, status),
     }
 }

@@ -44,6 +44,16 @@ pub(crate) fn plan(g: &mut StreamGraph, n: usize) -> Vec<f32> {
     curve
 }
 
+/// Glides over the next n samples in the chunks of the graph's fill.
+pub(crate) fn glide(g: &mut StreamGraph, n: usize) {
+    let mut done = 0;
+    while done < n {
+        let len = CHUNK.min(n - done);
+        g.glide_block(len);
+        done += len;
+    }
+}
+
 /// Plans n pitch numbers and keeps them for the Mix to meet. The graph stands as after them.
 pub(crate) fn open(g: &mut StreamGraph, n: usize) -> &[f32] {
     let curve = plan(g, n);

@@ -5,7 +5,7 @@ use native.Mathlib.Nat.{mul-zero}
 use native.Mathlib.Omega.{arith}
 use borrow.Author.Needs.{needs}
 use lib.ListN.{drop-of-length-le, length, take, drop, getD}
-use lib.Seq.{take-all}
+use lib.Seq.{take-all, set-getD}
 use Rattle.lists.specs.Parts.{part-size}
 use Rattle.lists.specs.Pass.{Pass, pass-read, pass-start, pass-keep, maps-more}
 use Rattle.lists.specs.Prefix.{take-min}
@@ -65,6 +65,64 @@ mul-end c = omega (arith, left c)
 add-end : tie.Need-add-end Inv-loop μ-loop
 add-end c = omega (arith, left c)
 
+stands-requires : tie.Need-stands-requires Inv-loop μ-loop
+stands-requires c κs = search needs
+
+mul-write-voice : tie.Need-mul-write-voice Inv-loop μ-loop
+mul-write-voice c = omega arith
+
+sub-write-voice : tie.Need-sub-write-voice Inv-loop μ-loop
+sub-write-voice c = omega arith
+
+part-write-voice-start : tie.Need-part-write-voice-start Inv-loop μ-loop
+part-write-voice-start c = search needs
+
+part-write-voice-end : tie.Need-part-write-voice-end Inv-loop μ-loop
+part-write-voice-end c = let l = left (c .before .before) in omega (arith, l)
+
+write-voice-requires : tie.Need-write-voice-requires Inv-loop μ-loop
+write-voice-requires c κs =
+    let d = c .before .before .before in
+    let b = d .before .before .before in
+    let rows = b .before .before .before .args .frames * d .copies-shown .result in
+    let e : b .loop .at + rows - b .loop .at ≡ rows = omega arith in
+    ap (_*_ (b .before .before .before .args .frames)) (sym (d .copies-shown .ensures .1)) ∙ sym (rw e (part-size (b .loop .at) rows (b .loop .curve) (omega (arith, left d))))
+
+add-i : tie.Need-add-i Inv-loop μ-loop
+add-i c = omega arith
+
+loop-less : tie.Need-loop-less Inv-loop μ-loop
+loop-less c = omega arith
+
+loop-again : tie.Need-loop-again Inv-loop μ-loop
+loop-again c =
+    let g = c .before .before in
+    let d = g .before .before .before .before in
+    let b = d .before .before .before in
+    let s = b .before .before .before in
+    let a = s .args in
+    let vs = a .vs in
+    let i = b .loop .i in
+    let at = b .loop .at in
+    let inv = b .loop .inv in
+    let len : length vs ≡ 64 = s .good .0 .1 .0 .1 in
+    let p = inv .3 in
+    let read = pass-read pastEnd p in
+    let v = getD (b .loop .ws) i pastEnd in
+    let rows = d .copies-shown .result in
+    let r = d .copies-shown .ensures .1 in
+    let e : at + a .frames * rows - at ≡ a .frames * rows = omega arith in
+    let f = onSeen (withCopies (glided (a .frames))) in
+    let t = g .before .before in
+    let new : seen v ≡ f (seen (getD vs i pastEnd)) = sym (t .before .stands .ensures (t .if1 .taken) (a .frames)) ∙ ap (λ (v : Voice). f (seen v)) read in
+    let kept = pass-keep v _ new p (omega arith) in (
+      omega arith,
+      rw (inv .1) at (c .before .curve .given .1),
+      left d,
+      rw (maps-more f seen vs i pastEnd (omega arith)) (rw (set-getD (b .loop .ws) i pastEnd) at kept),
+      voice-writes (a .n) vs v i (a .frames) len (omega arith) read at _ rows (b .loop .curve) _ r e (omega (arith, left d)) (g .write-voice .ensures) (inv .4),
+    )
+
 mul-glide-voice : tie.Need-mul-glide-voice Inv-loop μ-loop
 mul-glide-voice c = omega arith
 
@@ -75,11 +133,11 @@ part-glide-voice-start : tie.Need-part-glide-voice-start Inv-loop μ-loop
 part-glide-voice-start c = search needs
 
 part-glide-voice-end : tie.Need-part-glide-voice-end Inv-loop μ-loop
-part-glide-voice-end c = omega (arith, left c)
+part-glide-voice-end c = let l = left (c .before .before) in omega (arith, l)
 
 glide-voice-requires : tie.Need-glide-voice-requires Inv-loop μ-loop
 glide-voice-requires c κs =
-    let d = c .before in
+    let d = c .before .before .before in
     let b = d .before .before .before in
     let rows = b .before .before .before .args .frames * d .copies-shown .result in
     let e : b .loop .at + rows - b .loop .at ≡ rows = omega arith in
@@ -91,16 +149,16 @@ mul-ws c = omega arith
 array-set-from-ws : tie.Need-array-set-from-ws Inv-loop μ-loop
 array-set-from-ws c = search needs
 
-add-i : tie.Need-add-i Inv-loop μ-loop
-add-i c = omega arith
+add-i-2 : tie.Need-add-i-2 Inv-loop μ-loop
+add-i-2 c = omega arith
 
-loop-less : tie.Need-loop-less Inv-loop μ-loop
-loop-less c = omega arith
+loop-less-2 : tie.Need-loop-less-2 Inv-loop μ-loop
+loop-less-2 c = omega arith
 
-loop-again : tie.Need-loop-again Inv-loop μ-loop
-loop-again c =
+loop-again-2 : tie.Need-loop-again-2 Inv-loop μ-loop
+loop-again-2 c =
     let g = c .before .before in
-    let d = g .before .before in
+    let d = g .before .before .before .before in
     let b = d .before .before .before in
     let s = b .before .before .before in
     let a = s .args in
@@ -118,7 +176,7 @@ loop-again c =
     let f = onSeen (withCopies (glided (a .frames))) in
     let new : seen (g .glide-voice .result) ≡ f (seen (getD vs i pastEnd)) = g .glide-voice .ensures .0 ∙ ap (λ (v : Voice). f (seen v)) read in (
       omega arith,
-      rw (inv .1) at (c .before .curve .given .1),
+      rw (inv .1) at (c .before .curve2 .given .1),
       left d,
       rw (maps-more f seen vs i pastEnd (omega arith)) (pass-keep _ _ new p (omega arith)),
       voice-writes (a .n) vs v i (a .frames) len (omega arith) read at _ rows (b .loop .curve) _ r e (omega (arith, left d)) (g .glide-voice .ensures .1) (inv .4),
@@ -166,6 +224,15 @@ glide-table-spec =
     copies-shown-requires
     mul-end
     add-end
+    stands-requires
+    mul-write-voice
+    sub-write-voice
+    part-write-voice-start
+    part-write-voice-end
+    write-voice-requires
+    add-i
+    loop-less
+    loop-again
     mul-glide-voice
     sub-glide-voice
     part-glide-voice-start
@@ -173,8 +240,8 @@ glide-table-spec =
     glide-voice-requires
     mul-ws
     array-set-from-ws
-    add-i
-    loop-less
-    loop-again
+    add-i-2
+    loop-less-2
+    loop-again-2
     same-length
     returns)

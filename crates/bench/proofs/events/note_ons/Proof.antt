@@ -1,0 +1,51 @@
+-- `events::note_ons` is safe and ends: each turn leaves fewer.
+-- Assumes nothing.
+use Prim.Native.Nat.{_-_}
+use borrow.Author.Needs.{needs}
+use Rattle.bench.proofs.events.note_ons.Statement.{statement}
+use Rattle.bench.proofs.events.note_ons.Tie as tie
+
+abbrev Inv-loop : tie.InvT-loop
+Inv-loop turns s₀ sum₀ note₀ i₀ s sum note i = Unit {0}
+
+abbrev μ-loop : tie.MeasureT-loop
+μ-loop turns s₀ sum₀ note₀ i₀ s sum note i = turns - i
+
+loop-holds : tie.Need-loop-holds Inv-loop μ-loop
+loop-holds c = search needs
+
+note-on-requires : tie.Need-note-on-requires Inv-loop μ-loop
+note-on-requires c κs = search needs
+
+told-requires : tie.Need-told-requires Inv-loop μ-loop
+told-requires c κs = search needs
+
+next-note-requires : tie.Need-next-note-requires Inv-loop μ-loop
+next-note-requires c κs = search needs
+
+add-i : tie.Need-add-i Inv-loop μ-loop
+add-i c = search needs
+
+loop-less : tie.Need-loop-less Inv-loop μ-loop
+loop-less c = search needs
+
+loop-again : tie.Need-loop-again Inv-loop μ-loop
+loop-again c = search needs
+
+returns : tie.Need-returns Inv-loop μ-loop
+returns c = search needs
+
+pub note-ons-spec : {M : Type 1} → statement M
+note-ons-spec =
+    tie.close
+    (tie.spec
+    Inv-loop
+    μ-loop
+    loop-holds
+    note-on-requires
+    told-requires
+    next-note-requires
+    add-i
+    loop-less
+    loop-again
+    returns)

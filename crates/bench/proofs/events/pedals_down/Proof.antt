@@ -1,0 +1,47 @@
+-- `events::pedals_down` is safe and ends: each turn leaves fewer.
+-- Assumes nothing.
+use Prim.Native.Nat.{_-_}
+use borrow.Author.Needs.{needs}
+use Rattle.bench.proofs.events.pedals_down.Statement.{statement}
+use Rattle.bench.proofs.events.pedals_down.Tie as tie
+
+abbrev Inv-loop : tie.InvT-loop
+Inv-loop turns s₀ sum₀ i₀ s sum i = Unit {0}
+
+abbrev μ-loop : tie.MeasureT-loop
+μ-loop turns s₀ sum₀ i₀ s sum i = turns - i
+
+loop-holds : tie.Need-loop-holds Inv-loop μ-loop
+loop-holds c = search needs
+
+set-sustain-requires : tie.Need-set-sustain-requires Inv-loop μ-loop
+set-sustain-requires c κs = search needs
+
+told-requires : tie.Need-told-requires Inv-loop μ-loop
+told-requires c κs = search needs
+
+add-i : tie.Need-add-i Inv-loop μ-loop
+add-i c = search needs
+
+loop-less : tie.Need-loop-less Inv-loop μ-loop
+loop-less c = search needs
+
+loop-again : tie.Need-loop-again Inv-loop μ-loop
+loop-again c = search needs
+
+returns : tie.Need-returns Inv-loop μ-loop
+returns c = search needs
+
+pub pedals-down-spec : {M : Type 1} → statement M
+pedals-down-spec =
+    tie.close
+    (tie.spec
+    Inv-loop
+    μ-loop
+    loop-holds
+    set-sustain-requires
+    told-requires
+    add-i
+    loop-less
+    loop-again
+    returns)
