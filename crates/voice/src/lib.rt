@@ -11,6 +11,7 @@ ghost use Rattle.model.specs.Voices.{releasedVoice, killedVoice, withSustained,
 ghost use Rattle.model.specs.Notes.{offVoice, plays as playsOf, keptVoice};
 ghost use Rattle.model.specs.Controls.{liftedVoice};
 ghost use Rattle.model.specs.Queries.{soundsNote};
+ghost use Rattle.stream.specs.Pitch.{bent, cutTo};
 ghost use Rattle.voice.specs.View.{shown, seen};
 ghost use Rattle.voice.specs.Changes.{copyChanged, offSounding, voiceChanged, testOf, onSeen};
 use design::InstrumentDesign;
@@ -104,7 +105,7 @@ fn change_copies(copies: [UnisonCopy; 8], count: usize, change: CopyChange) -> [
 }
 
 impl Voice {
-    fn released(mut self) -> Voice
+    pub fn released(mut self) -> Voice
         ensures { λ r. ⌜ seen r ≡ onSeen releasedVoice (seen self) ⌝ }
     {
         let env = self.env.gate_off();
@@ -148,7 +149,7 @@ impl Voice {
     }
 
     // The pedal goes up: a sustained voice is released.
-    fn lifted(self) -> Voice
+    pub fn lifted(self) -> Voice
         ensures { λ r. ⌜ seen r ≡ onSeen liftedVoice (seen self) ⌝ }
     {
         if self.sustained {
@@ -164,6 +165,31 @@ impl Voice {
         let copies = self.copies;
         let next = change_copies(copies, self.copy_count, change);
         self.copies = next;
+        self
+    }
+
+    // Every copy bent by the wheel. All eight, counted or not: a loop of known length lets a caller change a voice where it stands.
+    pub fn with_bend(mut self, mul: f32) -> Voice
+        ensures { λ r. ⌜ seen r ≡ onSeen (withCopies (bent mul)) (seen self) ⌝ }
+    {
+        let bend = float32::max(mul, 0.0);
+        let mut j: usize = 0;
+        while j < 8 {
+            self.copies[j].bend = bend;
+            j += 1;
+        }
+        self
+    }
+
+    // Every copy with another cutoff.
+    pub fn with_cutoff(mut self, scale: f32) -> Voice
+        ensures { λ r. ⌜ seen r ≡ onSeen (withCopies (cutTo scale)) (seen self) ⌝ }
+    {
+        let mut j: usize = 0;
+        while j < 8 {
+            self.copies[j] = self.copies[j].set_cutoff(scale);
+            j += 1;
+        }
         self
     }
 
