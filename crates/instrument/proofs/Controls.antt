@@ -10,7 +10,7 @@ use Rattle.float32.specs.Numbers.{maxOf}
 use Rattle.stream.specs.declared.UnisonCopy.{UnisonCopy}
 use Rattle.stream.specs.Pitch.{bent, cutTo, leastCutoff}
 use lib.ListN.{length, getD, set, length-map, length-take}
-use Rattle.lists.specs.Choose.{cond-true, cond-false}
+use Rattle.lists.specs.Choose.{clash, cond-true, cond-false}
 use Rattle.lists.specs.Places.{findAt}
 use Rattle.model.specs.Types as M
 use Rattle.model.specs.Changes.{placed, tuned}
@@ -47,17 +47,19 @@ module _ (s : Instrument) (f : Free s) where
       (gives-placed s ws (s .«voice_count») (s .«next_handle») (s .sustain) _ Done _ r q (k .voices64) (omega arith) (mapped-room s releasedVoice ws e (f .counted)) refl
       (ap (λ (vs : List M.Voice). placed (view s) vs (s .«next_handle») (s .sustain) []) (mapped-voices s releasedVoice ws e)))
 
-  pub pedal-down-call : (r : Outcome) → r ≡ answeredAs Done (placedAs s (s .voices) (s .«voice_count») (s .«next_handle») true (holdingOf s)) → CallAs s (M.Call.pedal true) r
+  pub pedal-down-call : (b : Bool) (r : Outcome) → b ≡ true → r ≡ answeredAs Done (placedAs s (s .voices) (s .«voice_count») (s .«next_handle») b (holdingOf s)) → CallAs s (M.Call.pedal b) r
   unfolding pedalOf view
-  pedal-down-call r q =
+  pedal-down-call true r z q =
       let k = counts s (f .counted) in
       plain-call s (M.Call.pedal true) r f refl refl refl refl
       (gives-placed s (s .voices) (s .«voice_count») (s .«next_handle») true (holdingOf s) Done _ r q (k .voices64) (k .held256) (k .room) refl refl)
+  pedal-down-call false r z q = absurd (clash false z refl)
 
-  pub pedal-up-call : (ws : List Voice) (r : Outcome) → seenFirst (s .«voice_count») ws ≡ map (onSeen liftedVoice) (tableOf s)
-      → r ≡ answeredAs Done (placedAs s ws (s .«voice_count») (s .«next_handle») false (holdingOf s)) → CallAs s (M.Call.pedal false) r
+  pub pedal-up-call : (b : Bool) (ws : List Voice) (r : Outcome) → b ≡ false → seenFirst (s .«voice_count») ws ≡ map (onSeen liftedVoice) (tableOf s)
+      → r ≡ answeredAs Done (placedAs s ws (s .«voice_count») (s .«next_handle») b (holdingOf s)) → CallAs s (M.Call.pedal b) r
   unfolding pedalOf view
-  pedal-up-call ws r e q =
+  pedal-up-call true ws r z e q = absurd (clash true refl z)
+  pedal-up-call false ws r z e q =
       let k = counts s (f .counted) in
       plain-call s (M.Call.pedal false) r f refl refl refl refl
       (gives-placed s ws (s .«voice_count») (s .«next_handle») false (holdingOf s) Done _ r q (k .voices64) (k .held256) (mapped-room s liftedVoice ws e (f .counted)) refl

@@ -1,4 +1,5 @@
 pub mod Sizes
+pub mod Walks
 pub mod Parts
 pub mod Formed
 pub mod Calls

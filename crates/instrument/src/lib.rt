@@ -23,7 +23,6 @@ use envelope::EnvGen;
 use formed::Held;
 use note::Note;
 use stream::UnisonCopy;
-use voice::CopyChange;
 use voice::Voice;
 use voice::VoiceChange;
 use voice::VoiceTest;
@@ -337,69 +336,61 @@ impl Instrument {
         if barred != 0 {
             return refused(self, barred);
         }
+        self.sustain = down;
         if down {
-            self.sustain = true;
             return answered(Reply::Done, self);
         }
-        let vs = self.voices;
         let n = self.voice_count;
-        let held = self.holding();
-        let ws = voices::change_all(vs, n, VoiceChange::Lift);
-        answered(
-            Reply::Done,
-            self.placed(ws, n, self.next_handle, false, held),
-        )
+        let mut i: usize = 0;
+        while i < n {
+            if self.voices[i].sustained {
+                self.voices[i] = self.voices[i].lifted();
+            }
+            i += 1;
+        }
+        answered(Reply::Done, self)
     }
 
     // Releases one voice by its handle.
-    pub fn release(self, handle: u64) -> Outcome
+    pub fn release(mut self, handle: u64) -> Outcome
         ensures { λ r. ⌜ CallAs self (Call.release handle) r ⌝ }
     {
         let barred = self.barred();
         if barred != 0 {
             return refused(self, barred);
         }
-        let vs = self.voices;
         let n = self.voice_count;
-        let k = voices::find_first(vs, n, VoiceTest::Handle(handle));
-        if n <= k {
-            return answered(Reply::Released(false), self);
+        let mut i: usize = 0;
+        while i < n {
+            if self.voices[i].handle == handle {
+                self.voices[i] = self.voices[i].released();
+                return answered(Reply::Released(true), self);
+            }
+            i += 1;
         }
-        let ws = voices::change_at(vs, n, k, VoiceChange::Release);
-        answered(Reply::Released(true), self.with_table(ws))
+        answered(Reply::Released(false), self)
     }
 
     // Releases every voice and holds no note.
-    pub fn all_notes_off(self) -> Outcome
+    pub fn all_notes_off(mut self) -> Outcome
         ensures { λ r. ⌜ CallAs self Call.allOff r ⌝ }
     {
         let barred = self.barred();
         if barred != 0 {
             return refused(self, barred);
         }
-        let vs = self.voices;
         let n = self.voice_count;
-        let notes = self.held;
-        let ws = voices::change_all(vs, n, VoiceChange::Release);
-        let held = Held { notes, count: 0 };
-        answered(
-            Reply::Done,
-            self.placed(ws, n, self.next_handle, self.sustain, held),
-        )
+        let mut i: usize = 0;
+        while i < n {
+            self.voices[i] = self.voices[i].released();
+            i += 1;
+        }
+        self.held_count = 0;
+        answered(Reply::Done, self)
     }
 }
 
 impl Instrument {
-    // Other copies, bend and brightness.
-    fn tuned(mut self, vs: [Voice; 64], bend: f32, brightness: f32) -> Instrument
-        ensures { λ r. ⌜ r ≡ tunedAs self vs bend brightness ⌝ }
-    {
-        self.voices = vs;
-        self.bend = bend;
-        self.brightness = brightness;
-        self
-    }
-
     // Another table, and a block of so many frames open, or none.
     fn blocked(mut self, vs: [Voice; 64], count: usize, frames: usize) -> Instrument
         ensures { λ r. ⌜ r ≡ blockedAs self vs count frames ⌝ }
@@ -411,32 +402,40 @@ impl Instrument {
     }
 
     // Bends every voice, and any struck later, by the wheel's factor.
-    pub fn set_bend(self, factor: f32) -> Outcome
+    pub fn set_bend(mut self, factor: f32) -> Outcome
         ensures { λ r. ⌜ CallAs self (Call.bend factor) r ⌝ }
     {
         let barred = self.barred();
         if barred != 0 {
             return refused(self, barred);
         }
-        let vs = self.voices;
-        let change = VoiceChange::Copies(CopyChange::Bend(factor));
-        let ws = voices::change_all(vs, self.voice_count, change);
-        answered(Reply::Done, self.tuned(ws, factor, self.brightness))
+        let n = self.voice_count;
+        let mut i: usize = 0;
+        while i < n {
+            self.voices[i] = self.voices[i].with_bend(factor);
+            i += 1;
+        }
+        self.bend = factor;
+        answered(Reply::Done, self)
     }
 
     // Sets the cutoff of every copy, and of any built later.
-    pub fn set_brightness(self, scale: f32) -> Outcome
+    pub fn set_brightness(mut self, scale: f32) -> Outcome
         ensures { λ r. ⌜ CallAs self (Call.brightness scale) r ⌝ }
     {
         let barred = self.barred();
         if barred != 0 {
             return refused(self, barred);
         }
-        let vs = self.voices;
         let least = float32::max(scale, 0.01);
-        let change = VoiceChange::Copies(CopyChange::Cut(least));
-        let ws = voices::change_all(vs, self.voice_count, change);
-        answered(Reply::Done, self.tuned(ws, self.bend, least))
+        let n = self.voice_count;
+        let mut i: usize = 0;
+        while i < n {
+            self.voices[i] = self.voices[i].with_cutoff(least);
+            i += 1;
+        }
+        self.brightness = least;
+        answered(Reply::Done, self)
     }
 
     // Whether a handle is in the table.

@@ -1,82 +1,141 @@
-use mathlib.Core.Path.{refl, sym, ap, _∙_}
-use Rattle.instrument.specs.Calls.{answeredAs}
-use Rattle.instrument.specs.declared.Reply.the-variants.{Released}
+use mathlib.Core.Path.{_≡_, refl, ap, sym, subst, _∙_}
 use mathlib.Core.Bool.{true, false}
-use Rattle.instrument.proofs.Calls.{free, barred-call}
+use Prim.Native.Nat.{_≤_, _-_}
+use native.Mathlib.Omega.{arith}
+use borrow.Author.Needs.{needs}
+use Prim.Native.Nat.{_+_}
+use lib.ListN.{drop, getD, set}
+use Rattle.lists.specs.Places.{findAt}
+use Rattle.model.specs.Voices.{releasedVoice, hasHandle}
+use Rattle.voice.specs.View.{seen}
+use Rattle.voice.specs.Changes.{onSeen}
+use Rattle.voice.proofs.Sizes.{pastEnd}
+use Rattle.voices.specs.View.{voicesOf}
+use Rattle.instrument.proofs.Formed.{tableOf}
+use Rattle.instrument.specs.Calls.{answeredAs, placedAs, tabledAs}
+use Rattle.instrument.specs.declared.Instrument.{Instrument}
+use Rattle.instrument.specs.declared.Reply.the-variants.{Released}
+use Rattle.instrument.proofs.Calls.{free, counts, barred-call}
 use Rattle.instrument.proofs.Controls.{release-none, release-one}
 use Rattle.instrument.proofs.Sizes.{voices-long}
-use borrow.Author.Needs.{needs}
+use Rattle.instrument.proofs.Walks.{one-changed, this-handle, other-handle, found-here, found-later, found-nowhere}
 use Rattle.instrument.proofs.Instrument.release.Statement.{statement}
 use Rattle.instrument.proofs.Instrument.release.Tie as tie
-use Rattle.instrument.proofs.Instrument.release.Reads as reads
-use Rattle.instrument.proofs.Instrument.release.Lts as lts
-use Rattle.instrument.proofs.Instrument.barred.Reads as barred-reads
-use Rattle.instrument.proofs.Instrument.with_table.Reads as with-table-reads
-use Rattle.instrument.proofs.answered.Reads as answered-reads
-use Rattle.instrument.proofs.refused.Reads as refused-reads
-use Rattle.voices.proofs.change_at.Reads as change-at-reads
-use Rattle.voices.proofs.find_first.Reads as find-first-reads
 
--- src/lib.rt:520:13
-barred-requires : tie.Need-barred-requires
+abbrev Inv-loop : tie.InvT-loop
+Inv-loop handle self₀ barred n i₀ self i = (n ≤ 64) × ((i ≤ n) × ((self ≡ self₀) × (findAt (hasHandle handle) (voicesOf (tableOf self₀)) ≡ i + findAt (hasHandle handle) (drop i (voicesOf (tableOf self₀))))))
+
+abbrev μ-loop : tie.MeasureT-loop
+μ-loop handle self₀ barred n i₀ self i = n - i
+
+barred-requires : tie.Need-barred-requires Inv-loop μ-loop
 barred-requires c κs = search needs
 
--- src/lib.rt:522:13
-refused-requires : tie.Need-refused-requires
+refused-requires : tie.Need-refused-requires Inv-loop μ-loop
 refused-requires c κs = search needs
 
--- src/lib.rt:522:13
-returns : tie.Need-returns
+returns : tie.Need-returns Inv-loop μ-loop
 returns c = barred-call _ _ _ _ refl (c .before .before .barred .ensures) (c .before .if1 .taken) (c .refused .ensures)
 
--- src/lib.rt:526:13
-find-first-requires : tie.Need-find-first-requires
-find-first-requires c κs = search needs
+loop-holds : tie.Need-loop-holds Inv-loop μ-loop
+loop-holds c =
+    let s = c .before .before in
+    let f = free _ (sym (c .before .barred .ensures) ∙ c .if1 .left) in
+    (counts (s .args .t1) (f .counted) .voices64, (search needs, (refl, omega arith)))
 
--- src/lib.rt:528:13
-answered-requires : tie.Need-answered-requires
+mul-if2 : tie.Need-mul-if2 Inv-loop μ-loop
+mul-if2 c = omega arith
+
+element-copy-out-if2 : tie.Need-element-copy-out-if2 Inv-loop μ-loop
+element-copy-out-if2 c = omega arith
+
+mul-released : tie.Need-mul-released Inv-loop μ-loop
+mul-released c = omega arith
+
+element-copy-out-released : tie.Need-element-copy-out-released Inv-loop μ-loop
+element-copy-out-released c = omega arith
+
+released-requires : tie.Need-released-requires Inv-loop μ-loop
+released-requires c κs = search needs
+
+mul-t20 : tie.Need-mul-t20 Inv-loop μ-loop
+mul-t20 c = omega arith
+
+element-set-from-self : tie.Need-element-set-from-self Inv-loop μ-loop
+element-set-from-self c = omega arith
+
+answered-requires : tie.Need-answered-requires Inv-loop μ-loop
 answered-requires c κs = search needs
 
--- src/lib.rt:528:13
-returns-2 : tie.Need-returns-2
+returns-2 : tie.Need-returns-2 Inv-loop μ-loop
+unfolding placedAs
 returns-2 c =
-    let d = c .before .before in
-    let b = d .before .before in
-    let s = b .before .before in
-    release-none (s .args .self) (free _ (sym (b .before .barred .ensures) ∙ b .if1 .left)) (voices-long (s .args .self) (s .good .0)) (s .args .handle) _ (d .find-first .ensures) _ (c .before .if2 .taken) (c .answered .ensures)
+    let t = c .before .before .before in
+    let b = t .before .before in
+    let e = b .before in
+    let s = e .before .before in
+    let x = s .args .t1 in
+    let len = voices-long x (s .good .0) in
+    let f = free _ (sym (e .before .barred .ensures) ∙ e .if1 .left) in
+    let v = b .loop .inv in
+    let i = b .loop .i in
+    let same = v .1 .1 .0 in
+    let h = subst (λ (t : Instrument). getD (t .voices) i pastEnd .handle ≡ s .args .handle) same (t .if2 .taken) in
+    let w = c .before .released .result in
+    let now = subst (λ (t : Instrument). seen w ≡ onSeen releasedVoice (seen (getD (t .voices) i pastEnd))) same (c .before .released .ensures) in
+    release-one x f len (s .args .handle) i (found-here x len (v .0) (hasHandle (s .args .handle)) i (v .1 .1 .1) (omega arith) (this-handle _ _ h)) _ _ (omega arith)
+    (one-changed releasedVoice x i w (omega arith) now) (c .answered .ensures ∙ ap (λ (t : Instrument). answeredAs (Released true) (tabledAs t (set (t .voices) i w))) same)
 
--- src/lib.rt:530:13
-change-at-requires : tie.Need-change-at-requires
-change-at-requires c κs = search needs
+add-i : tie.Need-add-i Inv-loop μ-loop
+add-i c = omega arith
 
--- src/lib.rt:531:41
-with-table-requires : tie.Need-with-table-requires
-with-table-requires c κs = search needs
+loop-less : tie.Need-loop-less Inv-loop μ-loop
+loop-less c = omega arith
 
--- src/lib.rt:531:9
-answered-requires-2 : tie.Need-answered-requires-2
+loop-again : tie.Need-loop-again Inv-loop μ-loop
+loop-again c =
+    let b = c .before .before in
+    let s = b .before .before .before in
+    let x = s .args .t1 in
+    let len = voices-long x (s .good .0) in
+    let v = b .loop .inv in
+    (v .0, (omega arith, (v .1 .1 .0, found-later x len (v .0) (hasHandle (s .args .handle)) (b .loop .i) (v .1 .1 .1) (omega arith) (other-handle _ _ (subst (λ (t : Instrument). getD (t .voices) (b .loop .i) pastEnd .handle ≡ s .args .handle → ⊥) (v .1 .1 .0) (c .if2 .left))))))
+
+answered-requires-2 : tie.Need-answered-requires-2 Inv-loop μ-loop
 answered-requires-2 c κs = search needs
 
--- src/lib.rt:517:5
-returns-3 : tie.Need-returns-3
+returns-3 : tie.Need-returns-3 Inv-loop μ-loop
 returns-3 c =
-    let e = c .before .before .before in
-    let d = e .before in
-    let b = d .before .before in
-    let s = b .before .before in
-    release-one (s .args .self) (free _ (sym (b .before .barred .ensures) ∙ b .if1 .left)) (voices-long (s .args .self) (s .good .0)) (s .args .handle) _ (d .find-first .ensures) _ _ (e .if2 .left) (c .before .before .change-at .ensures) (c .answered2 .ensures ∙ ap (answeredAs (Released true)) (c .before .with-table .ensures))
+    let b = c .before .before in
+    let e = b .before in
+    let s = e .before .before in
+    let x = s .args .t1 in
+    let len = voices-long x (s .good .0) in
+    let f = free _ (sym (e .before .barred .ensures) ∙ e .if1 .left) in
+    let v = b .loop .inv in
+    release-none x f len (s .args .handle) _ refl _ (found-nowhere x len (v .0) (hasHandle (s .args .handle)) (b .loop .i) (v .1 .1 .1) (omega arith)) (c .answered2 .ensures ∙ ap (answeredAs (Released false)) (v .1 .1 .0))
 
 pub release-spec : {M : Type 1} → statement M
 release-spec =
     tie.close
     (tie.spec
+    Inv-loop
+    μ-loop
     barred-requires
     refused-requires
     returns
-    find-first-requires
+    loop-holds
+    mul-if2
+    element-copy-out-if2
+    mul-released
+    element-copy-out-released
+    released-requires
+    mul-t20
+    element-set-from-self
     answered-requires
     returns-2
-    change-at-requires
-    with-table-requires
+    add-i
+    loop-less
+    loop-again
     answered-requires-2
     returns-3)

@@ -1,57 +1,101 @@
-use mathlib.Core.Path.{refl, sym, ap, _∙_}
-use Rattle.instrument.specs.Calls.{answeredAs}
-use Rattle.instrument.specs.declared.Reply.the-variants.{Done}
-use Rattle.instrument.proofs.Calls.{free, barred-call}
-use Rattle.instrument.proofs.Controls.{bend-call}
+use mathlib.Core.Path.{_≡_, refl, ap, sym, _∙_}
+use Prim.Native.Nat.{_≤_, _-_}
+use native.Mathlib.Omega.{arith}
 use borrow.Author.Needs.{needs}
+use Rattle.stream.specs.Pitch.{bent}
+use Rattle.model.specs.Voices.{withCopies}
+use Rattle.instrument.specs.Calls.{answeredAs, placedAs, tunedAs}
+use Rattle.instrument.specs.declared.Instrument.{Instrument}
+use Rattle.instrument.specs.declared.Reply.the-variants.{Done}
+use Rattle.instrument.proofs.Calls.{free, counts, barred-call}
+use Rattle.instrument.proofs.Controls.{bend-call}
+use Rattle.instrument.proofs.Sizes.{voices-long}
+use Rattle.instrument.proofs.Walks.{Walked, walk-start, walk-change, walk-end}
 use Rattle.instrument.proofs.Instrument.set_bend.Statement.{statement}
 use Rattle.instrument.proofs.Instrument.set_bend.Tie as tie
-use Rattle.instrument.proofs.Instrument.set_bend.Reads as reads
-use Rattle.instrument.proofs.Instrument.set_bend.Lts as lts
-use Rattle.instrument.proofs.Instrument.barred.Reads as barred-reads
-use Rattle.instrument.proofs.Instrument.tuned.Reads as tuned-reads
-use Rattle.instrument.proofs.answered.Reads as answered-reads
-use Rattle.instrument.proofs.refused.Reads as refused-reads
-use Rattle.voices.proofs.change_all.Reads as change-all-reads
 
--- src/lib.rt:579:13
-barred-requires : tie.Need-barred-requires
+abbrev Inv-loop : tie.InvT-loop
+Inv-loop factor self₀ barred n i₀ self i = (n ≤ 64) × ((i ≤ n) × Walked (withCopies (bent factor)) self₀ self i)
+
+abbrev μ-loop : tie.MeasureT-loop
+μ-loop factor self₀ barred n i₀ self i = n - i
+
+barred-requires : tie.Need-barred-requires Inv-loop μ-loop
 barred-requires c κs = search needs
 
--- src/lib.rt:581:13
-refused-requires : tie.Need-refused-requires
+refused-requires : tie.Need-refused-requires Inv-loop μ-loop
 refused-requires c κs = search needs
 
--- src/lib.rt:581:13
-returns : tie.Need-returns
+returns : tie.Need-returns Inv-loop μ-loop
 returns c = barred-call _ _ _ _ refl (c .before .before .barred .ensures) (c .before .if1 .taken) (c .refused .ensures)
 
--- src/lib.rt:585:13
-change-all-requires : tie.Need-change-all-requires
-change-all-requires c κs = search needs
+loop-holds : tie.Need-loop-holds Inv-loop μ-loop
+loop-holds c = 
+    let s = c .before .before in
+    let f = free _ (sym (c .before .barred .ensures) ∙ c .if1 .left) in
+    (counts (s .args .t1) (f .counted) .voices64, (search needs, walk-start _ (s .args .t1)))
 
--- src/lib.rt:586:31
-tuned-requires : tie.Need-tuned-requires
-tuned-requires c κs = search needs
+mul-with-bend : tie.Need-mul-with-bend Inv-loop μ-loop
+mul-with-bend c = omega arith
 
--- src/lib.rt:586:9
-answered-requires : tie.Need-answered-requires
+element-copy-out-with-bend : tie.Need-element-copy-out-with-bend Inv-loop μ-loop
+element-copy-out-with-bend c = omega arith
+
+with-bend-requires : tie.Need-with-bend-requires Inv-loop μ-loop
+with-bend-requires c κs = search needs
+
+mul-t16 : tie.Need-mul-t16 Inv-loop μ-loop
+mul-t16 c = omega arith
+
+element-set-from-self : tie.Need-element-set-from-self Inv-loop μ-loop
+element-set-from-self c = omega arith
+
+add-i : tie.Need-add-i Inv-loop μ-loop
+add-i c = omega arith
+
+loop-less : tie.Need-loop-less Inv-loop μ-loop
+loop-less c = omega arith
+
+loop-again : tie.Need-loop-again Inv-loop μ-loop
+unfolding placedAs
+loop-again c = 
+    let b = c .before .before .before in
+    let s = b .before .before .before in
+    let len = voices-long (s .args .t1) (s .good .0) in
+    (search needs, (omega arith, walk-change (withCopies (bent (s .args .factor))) (s .args .t1) (b .loop .self) (b .loop .i) (b .loop .inv .1 .1) (omega arith) _ (c .with-bend .ensures)))
+
+answered-requires : tie.Need-answered-requires Inv-loop μ-loop
 answered-requires c κs = search needs
 
--- src/lib.rt:576:5
-returns-2 : tie.Need-returns-2
-returns-2 c =
-    let b = c .before .before .before .before in
-    bend-call (b .before .before .args .self) (free _ (sym (b .before .barred .ensures) ∙ b .if1 .left)) (b .before .before .args .factor) _ _ (c .before .before .change-all .ensures) (c .answered .ensures ∙ ap (answeredAs Done) (c .before .tuned .ensures))
+returns-2 : tie.Need-returns-2 Inv-loop μ-loop
+unfolding placedAs tunedAs
+returns-2 c = 
+    let b = c .before .before in
+    let d = b .before in
+    let s = d .before .before in
+    let f = free _ (sym (d .before .barred .ensures) ∙ d .if1 .left) in
+    let w = b .loop .inv .1 .1 in
+    let ws = b .loop .self .voices in
+    bend-call (s .args .t1) f (s .args .factor) ws _ (walk-end _ (s .args .t1) (b .loop .self) (b .loop .i) w (omega arith))
+    (c .answered .ensures ∙ ap (λ (x : Instrument). answeredAs Done (tunedAs x ws (s .args .factor) (x .brightness))) (w .rest))
 
 pub set-bend-spec : {M : Type 1} → statement M
 set-bend-spec =
     tie.close
     (tie.spec
+    Inv-loop
+    μ-loop
     barred-requires
     refused-requires
     returns
-    change-all-requires
-    tuned-requires
+    loop-holds
+    mul-with-bend
+    element-copy-out-with-bend
+    with-bend-requires
+    mul-t16
+    element-set-from-self
+    add-i
+    loop-less
+    loop-again
     answered-requires
     returns-2)

@@ -1,63 +1,107 @@
-use mathlib.Core.Path.{refl, sym, ap, _∙_}
-use Rattle.instrument.specs.Calls.{answeredAs}
-use Rattle.instrument.specs.declared.Reply.the-variants.{Done}
-use Rattle.instrument.proofs.Calls.{free, barred-call}
-use Rattle.instrument.proofs.Controls.{brightness-call}
+use mathlib.Core.Path.{_≡_, refl, ap, sym, _∙_}
+use Prim.Native.Nat.{_≤_, _-_}
+use native.Mathlib.Omega.{arith}
 use borrow.Author.Needs.{needs}
+use Rattle.stream.specs.Pitch.{cutTo}
+use Rattle.model.specs.Voices.{withCopies}
+use Rattle.instrument.specs.Calls.{answeredAs, placedAs, tunedAs}
+use Rattle.instrument.specs.declared.Instrument.{Instrument}
+use Rattle.instrument.specs.declared.Reply.the-variants.{Done}
+use Rattle.instrument.proofs.Calls.{free, counts, barred-call}
+use Rattle.instrument.proofs.Controls.{brightness-call}
+use Rattle.instrument.proofs.Sizes.{voices-long}
+use Rattle.instrument.proofs.Walks.{Walked, walk-start, walk-change, walk-end}
 use Rattle.instrument.proofs.Instrument.set_brightness.Statement.{statement}
 use Rattle.instrument.proofs.Instrument.set_brightness.Tie as tie
-use Rattle.instrument.proofs.Instrument.set_brightness.Reads as reads
-use Rattle.instrument.proofs.Instrument.set_brightness.Lts as lts
-use Rattle.float32.proofs.max.Reads as max-reads
-use Rattle.instrument.proofs.Instrument.barred.Reads as barred-reads
-use Rattle.instrument.proofs.Instrument.tuned.Reads as tuned-reads
-use Rattle.instrument.proofs.answered.Reads as answered-reads
-use Rattle.instrument.proofs.refused.Reads as refused-reads
-use Rattle.voices.proofs.change_all.Reads as change-all-reads
 
--- src/lib.rt:593:13
-barred-requires : tie.Need-barred-requires
+abbrev Inv-loop : tie.InvT-loop
+Inv-loop scale self₀ barred least n i₀ self i = (n ≤ 64) × ((i ≤ n) × Walked (withCopies (cutTo least)) self₀ self i)
+
+abbrev μ-loop : tie.MeasureT-loop
+μ-loop scale self₀ barred least n i₀ self i = n - i
+
+barred-requires : tie.Need-barred-requires Inv-loop μ-loop
 barred-requires c κs = search needs
 
--- src/lib.rt:595:13
-refused-requires : tie.Need-refused-requires
+refused-requires : tie.Need-refused-requires Inv-loop μ-loop
 refused-requires c κs = search needs
 
--- src/lib.rt:595:13
-returns : tie.Need-returns
+returns : tie.Need-returns Inv-loop μ-loop
 returns c = barred-call _ _ _ _ refl (c .before .before .barred .ensures) (c .before .if1 .taken) (c .refused .ensures)
 
--- src/lib.rt:598:13
-max-requires : tie.Need-max-requires
+max-requires : tie.Need-max-requires Inv-loop μ-loop
 max-requires c κs = search needs
 
--- src/lib.rt:600:13
-change-all-requires : tie.Need-change-all-requires
-change-all-requires c κs = search needs
+loop-holds : tie.Need-loop-holds Inv-loop μ-loop
+loop-holds c = 
+    let e = c .before in
+    let s = e .before .before in
+    let f = free _ (sym (e .before .barred .ensures) ∙ e .if1 .left) in
+    (counts (s .args .t1) (f .counted) .voices64, (search needs, walk-start _ (s .args .t1)))
 
--- src/lib.rt:601:31
-tuned-requires : tie.Need-tuned-requires
-tuned-requires c κs = search needs
+mul-with-cutoff : tie.Need-mul-with-cutoff Inv-loop μ-loop
+mul-with-cutoff c = omega arith
 
--- src/lib.rt:601:9
-answered-requires : tie.Need-answered-requires
+element-copy-out-with-cutoff : tie.Need-element-copy-out-with-cutoff Inv-loop μ-loop
+element-copy-out-with-cutoff c = omega arith
+
+with-cutoff-requires : tie.Need-with-cutoff-requires Inv-loop μ-loop
+with-cutoff-requires c κs = search needs
+
+mul-t17 : tie.Need-mul-t17 Inv-loop μ-loop
+mul-t17 c = omega arith
+
+element-set-from-self : tie.Need-element-set-from-self Inv-loop μ-loop
+element-set-from-self c = omega arith
+
+add-i : tie.Need-add-i Inv-loop μ-loop
+add-i c = omega arith
+
+loop-less : tie.Need-loop-less Inv-loop μ-loop
+loop-less c = omega arith
+
+loop-again : tie.Need-loop-again Inv-loop μ-loop
+unfolding placedAs
+loop-again c = 
+    let b = c .before .before .before in
+    let s = b .before .before .before .before in
+    let len = voices-long (s .args .t1) (s .good .0) in
+    (search needs, (omega arith, walk-change (withCopies (cutTo (b .before .max .result))) (s .args .t1) (b .loop .self) (b .loop .i) (b .loop .inv .1 .1) (omega arith) _ (c .with-cutoff .ensures)))
+
+answered-requires : tie.Need-answered-requires Inv-loop μ-loop
 answered-requires c κs = search needs
 
--- src/lib.rt:590:5
-returns-2 : tie.Need-returns-2
-returns-2 c =
-    let b = c .before .before .before .before .before in
-    brightness-call (b .before .before .args .self) (free _ (sym (b .before .barred .ensures) ∙ b .if1 .left)) (b .before .before .args .scale) _ _ _ (c .before .before .before .max .ensures) (c .before .before .change-all .ensures) (c .answered .ensures ∙ ap (answeredAs Done) (c .before .tuned .ensures))
+returns-2 : tie.Need-returns-2 Inv-loop μ-loop
+unfolding placedAs tunedAs
+returns-2 c = 
+    let b = c .before .before in
+    let m = b .before in
+    let d = m .before in
+    let s = d .before .before in
+    let f = free _ (sym (d .before .barred .ensures) ∙ d .if1 .left) in
+    let w = b .loop .inv .1 .1 in
+    let ws = b .loop .self .voices in
+    brightness-call (s .args .t1) f (s .args .scale) (m .max .result) ws _ (m .max .ensures) (walk-end _ (s .args .t1) (b .loop .self) (b .loop .i) w (omega arith))
+    (c .answered .ensures ∙ ap (λ (x : Instrument). answeredAs Done (tunedAs x ws (x .bend) (m .max .result))) (w .rest))
 
 pub set-brightness-spec : {M : Type 1} → statement M
 set-brightness-spec =
     tie.close
     (tie.spec
+    Inv-loop
+    μ-loop
     barred-requires
     refused-requires
     returns
     max-requires
-    change-all-requires
-    tuned-requires
+    loop-holds
+    mul-with-cutoff
+    element-copy-out-with-cutoff
+    with-cutoff-requires
+    mul-t17
+    element-set-from-self
+    add-i
+    loop-less
+    loop-again
     answered-requires
     returns-2)

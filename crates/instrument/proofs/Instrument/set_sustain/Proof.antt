@@ -1,69 +1,129 @@
-use mathlib.Core.Path.{refl, sym, ap, subst, _∙_}
-use mathlib.Core.Bool.{Bool, true, false}
-use Rattle.model.specs.Types as M
-use Rattle.instrument.specs.Calls.{answeredAs, placedAs}
-use Rattle.formed.specs.declared.Held.{Held}
-use Rattle.instrument.specs.declared.Reply.the-variants.{Done}
-use Rattle.instrument.proofs.Calls.{free, barred-call}
-use Rattle.instrument.proofs.Controls.{pedal-down-call, pedal-up-call}
+use mathlib.Core.Path.{_≡_, refl, ap, sym, _∙_}
+use Prim.Native.Nat.{_≤_, _-_}
+use native.Mathlib.Omega.{arith}
 use borrow.Author.Needs.{needs}
+use mathlib.Core.Bool.{Bool, true, false}
+use mathlib.Core.Logic.{⊎-elim}
+use Rattle.model.specs.Controls.{liftedVoice}
+use Rattle.instrument.specs.Calls.{answeredAs, placedAs, holdingOf}
+use Rattle.instrument.specs.declared.Instrument.{Instrument}
+use Rattle.instrument.specs.declared.Reply.the-variants.{Done}
+use Rattle.instrument.proofs.Calls.{free, counts, barred-call}
+use Rattle.instrument.proofs.Controls.{pedal-down-call, pedal-up-call}
+use Rattle.instrument.proofs.Sizes.{voices-long}
+use Rattle.instrument.proofs.Walks.{Walked, walk-start, walk-change, walk-leave, walk-end, lift-stays}
 use Rattle.instrument.proofs.Instrument.set_sustain.Statement.{statement}
 use Rattle.instrument.proofs.Instrument.set_sustain.Tie as tie
 
-barred-requires : tie.Need-barred-requires
+abbrev Inv-loop : tie.InvT-loop
+Inv-loop down self₀ barred n i₀ self i = (n ≤ 64) × ((i ≤ n) × Walked liftedVoice self₀ self i)
+
+abbrev μ-loop : tie.MeasureT-loop
+μ-loop down self₀ barred n i₀ self i = n - i
+
+barred-requires : tie.Need-barred-requires Inv-loop μ-loop
 barred-requires c κs = search needs
 
-refused-requires : tie.Need-refused-requires
+refused-requires : tie.Need-refused-requires Inv-loop μ-loop
 refused-requires c κs = search needs
 
-returns : tie.Need-returns
+returns : tie.Need-returns Inv-loop μ-loop
 returns c = barred-call _ _ _ _ refl (c .before .before .barred .ensures) (c .before .if1 .taken) (c .refused .ensures)
 
-answered-requires : tie.Need-answered-requires
+answered-requires : tie.Need-answered-requires Inv-loop μ-loop
 answered-requires c κs = search needs
 
-returns-2 : tie.Need-returns-2
+returns-2 : tie.Need-returns-2 Inv-loop μ-loop
 unfolding placedAs
 returns-2 c =
     let t = c .before in
-    let b = t .before in
-    let s = b .before .before in
-    let x = s .args .self in
-    rw (t .if2 .taken) (pedal-down-call x (free _ (sym (b .before .barred .ensures) ∙ b .if1 .left)) _ (c .answered .ensures))
+    let e = t .before in
+    let s = e .before .before in
+    pedal-down-call (s .args .t1) (free _ (sym (e .before .barred .ensures) ∙ e .if1 .left)) (s .args .down) _ (t .if2 .taken) (c .answered .ensures)
 
-holding-requires : tie.Need-holding-requires
-holding-requires c κs = search needs
+loop-holds : tie.Need-loop-holds Inv-loop μ-loop
+loop-holds c =
+    let e = c .before in
+    let s = e .before .before in
+    let f = free _ (sym (e .before .barred .ensures) ∙ e .if1 .left) in
+    (counts (s .args .t1) (f .counted) .voices64, (search needs, walk-start _ _))
 
-change-all-requires : tie.Need-change-all-requires
-change-all-requires c κs = search needs
+mul-if3 : tie.Need-mul-if3 Inv-loop μ-loop
+mul-if3 c = omega arith
 
-placed-requires : tie.Need-placed-requires
-placed-requires c κs = search needs
+element-copy-out-if3 : tie.Need-element-copy-out-if3 Inv-loop μ-loop
+element-copy-out-if3 c = omega arith
 
-answered-requires-2 : tie.Need-answered-requires-2
+mul-lifted : tie.Need-mul-lifted Inv-loop μ-loop
+mul-lifted c = omega arith
+
+element-copy-out-lifted : tie.Need-element-copy-out-lifted Inv-loop μ-loop
+element-copy-out-lifted c = omega arith
+
+lifted-requires : tie.Need-lifted-requires Inv-loop μ-loop
+lifted-requires c κs = search needs
+
+mul-t21 : tie.Need-mul-t21 Inv-loop μ-loop
+mul-t21 c = omega arith
+
+element-set-from-self : tie.Need-element-set-from-self Inv-loop μ-loop
+element-set-from-self c = omega arith
+
+add-i : tie.Need-add-i Inv-loop μ-loop
+add-i c = omega arith
+
+loop-less : tie.Need-loop-less Inv-loop μ-loop
+loop-less c = omega arith
+
+loop-again : tie.Need-loop-again Inv-loop μ-loop
+unfolding placedAs
+loop-again c =
+    let b = c .before .before in
+    let s = b .before .before .before .before in
+    let len = voices-long (s .args .t1) (s .good .0) in
+    let w = b .loop .inv .1 .1 in
+    ⊎-elim
+    (λ y. (search needs, (omega arith, rw (y .3) (walk-change liftedVoice _ (b .loop .self) (b .loop .i) w (omega arith) _ (y .2 .ensures)))))
+    (λ y. (search needs, (omega arith, rw (y .1) (walk-leave liftedVoice _ (b .loop .self) (b .loop .i) w (omega arith) (lift-stays _ (y .0 .left))))))
+    (c .if3 .came)
+
+answered-requires-2 : tie.Need-answered-requires-2 Inv-loop μ-loop
 answered-requires-2 c κs = search needs
 
-returns-3 : tie.Need-returns-3
+returns-3 : tie.Need-returns-3 Inv-loop μ-loop
+unfolding placedAs
 returns-3 c =
-    let w = c .before .before in
-    let h = w .before in
-    let t = h .before .before in
-    let b = t .before in
-    let s = b .before .before in
-    let x = s .args .self in
-    rw (t .if2 .left) (pedal-up-call x (free _ (sym (b .before .barred .ensures) ∙ b .if1 .left)) _ _ (w .change-all .ensures) (c .answered2 .ensures ∙ ap (answeredAs Done) (c .before .placed .ensures ∙ ap (λ (k : Held). placedAs x (w .change-all .result) (x .«voice_count») (x .«next_handle») false k) (h .holding .ensures))))
+    let b = c .before .before in
+    let t = b .before in
+    let e = t .before in
+    let s = e .before .before in
+    let f = free _ (sym (e .before .barred .ensures) ∙ e .if1 .left) in
+    let w = b .loop .inv .1 .1 in
+    let ws = b .loop .self .voices in
+    pedal-up-call (s .args .t1) f (s .args .down) ws _ (t .if2 .left) (walk-end _ _ (b .loop .self) (b .loop .i) w (omega arith))
+    (c .answered2 .ensures ∙ ap (answeredAs Done) (w .rest))
 
 pub set-sustain-spec : {M : Type 1} → statement M
 set-sustain-spec =
     tie.close
     (tie.spec
+    Inv-loop
+    μ-loop
     barred-requires
     refused-requires
     returns
     answered-requires
     returns-2
-    holding-requires
-    change-all-requires
-    placed-requires
+    loop-holds
+    mul-if3
+    element-copy-out-if3
+    mul-lifted
+    element-copy-out-lifted
+    lifted-requires
+    mul-t21
+    element-set-from-self
+    add-i
+    loop-less
+    loop-again
     answered-requires-2
     returns-3)
