@@ -7,7 +7,9 @@ use native.Mathlib.Omega.{arith}
 use borrow.Author.Tests.{eq-eqb, ne-eqb}
 use lib.ListN.{length, take, drop, getD, set, length-map, length-take}
 use Rattle.lists.specs.Prefix.{take-more, shown-set}
-use Rattle.lists.specs.Places.{findAt, find-found, find-next}
+use lib.Seq.{getD-take}
+use Rattle.lists.specs.Count.{count}
+use Rattle.lists.specs.Places.{findAt, find-found, find-next, count-left}
 use Rattle.lists.specs.Pass.{Pass, pass-read, pass-start, pass-keep, pass-skip, maps-more}
 use Rattle.model.specs.Types as M
 use Rattle.model.specs.Voices.{hasHandle}
@@ -104,3 +106,15 @@ module _ (s : Instrument) (lv : length (s .voices) ≡ 64) (h64 : s .«voice_cou
 
   pub found-nowhere : s .«voice_count» ≤ i → s .«voice_count» ≤ findAt p (voicesOf (tableOf s))
   found-nowhere h = omega (arith, e)
+
+-- looking for the last voice that passes, from the end of the first `reach` on
+module _ (s : Instrument) (lv : length (s .voices) ≡ 64) (h64 : s .«voice_count» ≤ 64) (p : M.Voice → Bool) (reach k : ℕ) (hr : reach ≤ s .«voice_count») (hk : k < reach) where
+  pub last-here : (b : Bool) → p (shown (getD (s .voices) k pastEnd)) ≡ b → p (getD (voicesOf (tableOf s)) k M.noVoice) ≡ b
+  last-here b t = ap p (table-at (s .«voice_count») (s .voices) k (omega arith)) ∙ t
+
+  pub last-before : p (shown (getD (s .voices) k pastEnd)) ≡ false → count p (drop (k + 1) (take reach (voicesOf (tableOf s)))) ≡ 0 → count p (drop k (take reach (voicesOf (tableOf s)))) ≡ 0
+  last-before t z =
+      let l : length (voicesOf (tableOf s)) ≡ s .«voice_count» = simp (length-map, length-take) (omega arith) in
+      let at : k < length (take reach (voicesOf (tableOf s))) = simp length-take (omega arith) in
+      let here : p (getD (take reach (voicesOf (tableOf s))) k M.noVoice) ≡ false = ap p (getD-take reach (voicesOf (tableOf s)) k M.noVoice hk) ∙ last-here false t in
+      count-left p (take reach (voicesOf (tableOf s))) k M.noVoice at ∙ rw (here, z)

@@ -6,20 +6,27 @@ use mathlib.Core.List.{List, []}
 use lib.Dec.{eqb}
 use lib.Ieee.{Float}
 use Rattle.voice.specs.declared.Voice.{Voice}
+use Rattle.voice.specs.declared.VoiceChange.{VoiceChange}
+use Rattle.voice.specs.declared.VoiceChange.the-variants as Change
+use Rattle.voice.specs.Changes.{voiceChanged, testOf, onSeen, noSeen}
 use Rattle.voices.specs.View.{seenFirst, voicesOf, inRoom}
-use Rattle.model.specs.Notes.{fallenBack, newNote, goesOn, monoOn}
+use Rattle.model.specs.Notes.{noneHeld, newestHeld, fallenBack, noteOffOf, newNote, goesOn, monoOn}
 use Rattle.formed.specs.declared.Held.{Held}
 use Rattle.float32.specs.Numbers.{zero as +0}
-use Prim.Native.Nat.{ℕ}
+use Prim.Native.Nat.{ℕ, _+_, _≤_, _<_}
+use lib.ListN.{length, take, drop, getD, set}
+use Rattle.lists.specs.Count.{count}
 use Rattle.design.specs.declared.DesignReply.{DesignReply}
 use Rattle.design.specs.declared.InstrumentDesign.{InstrumentDesign}
 use Rattle.design.specs.Accepted.{designReply, isAccepted}
 use Rattle.model.specs.Types as model
+use Rattle.model.specs.Types.{noVoice}
 use Rattle.model.specs.Step.{refusal, lentTo, step}
 use Rattle.model.specs.Start.{fresh, zeroState}
 use Rattle.instrument.specs.View.{view, counted, formed}
 use Rattle.instrument.specs.declared.Instrument.{Instrument}
 use Rattle.instrument.specs.declared.NewInstrument.{NewInstrument}
+use Rattle.instrument.specs.declared.NoteOff.{NoteOff}
 use Rattle.instrument.specs.declared.Outcome.{Outcome}
 use Rattle.instrument.specs.declared.Reply.{Reply}
 use Rattle.instrument.specs.declared.Reply.the-variants.{Started, Silent, Kept, Off, Done, Released, Planned, Refused}
@@ -145,6 +152,30 @@ tunedAs s vs bend brightness = record {
 pub record FallsBack (s : Instrument) (held : List ℕ) (ws : List Voice) : Type 0 where
   pub room : inRoom (seenFirst (s .«voice_count») ws) ≡ true
   pub voices : voicesOf (seenFirst (s .«voice_count») ws) ≡ fallenBack (view s) held
+
+-- what becomes of the one voice of Mono that is not releasing, with these notes still held
+unfoldable pub fallBackOf : Bool → Float → List ℕ → VoiceChange
+fallBackOf down glide held = cond (noneHeld held) (Change.Off down) (Change.AimAt (newestHeld held) glide)
+
+-- what a note-off reads of a state that does not bar it
+pub record Reads (s : Instrument) (holding : Held) (n : ℕ) (down : Bool) : Type 0 where
+  pub free : barredBy s ≡ 0
+  pub voices64 : length (s .voices) ≡ 64
+  pub held256 : length (s .held) ≡ 256
+  pub held : holdingOf s ≡ holding
+  pub size : s .«voice_count» ≡ n
+  pub pedal : s .sustain ≡ down
+
+-- a note-off that is carried out as `o` says is the definition's: where no voice that it looks through passes its test,
+-- and where the last that does, at k, is changed, which gives the table ws
+pub record OffAs (s : Instrument) (note : ℕ) (o : NoteOff) : Type 0 where
+  pub within : o .reach ≤ s .«voice_count»
+  pub none : count (testOf (o .test)) (take (o .reach) (voicesOf (seenFirst (s .«voice_count») (s .voices)))) ≡ 0
+      → Gives (noteOffOf (view s) note) (answeredAs (Off (o .held)) (placedAs s (s .voices) (s .«voice_count») (s .«next_handle») (s .sustain) (o .rest)))
+  pub one : (k : ℕ) (ws : List Voice) → k < o .reach → testOf (o .test) (getD (voicesOf (seenFirst (s .«voice_count») (s .voices))) k noVoice) ≡ true
+      → count (testOf (o .test)) (drop (k + 1) (take (o .reach) (voicesOf (seenFirst (s .«voice_count») (s .voices))))) ≡ 0
+      → seenFirst (s .«voice_count») ws ≡ set (seenFirst (s .«voice_count») (s .voices)) k (onSeen (voiceChanged (o .change)) (getD (seenFirst (s .«voice_count») (s .voices)) k noSeen))
+      → Gives (noteOffOf (view s) note) (answeredAs (Off true) (placedAs s ws (s .«voice_count») (s .«next_handle») (s .sustain) (o .rest)))
 
 -- the largest next handle: none is left
 abbrev pub lastHandle : ℕ

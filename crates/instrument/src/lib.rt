@@ -1,17 +1,19 @@
 // The instrument (the Rust's instrument/mod.rs): the voice table and the calls on it.
 
 ghost use mathlib.Core.Path.{_≡_};
-ghost use mathlib.Core.Bool.{true};
+ghost use mathlib.Core.Bool.{Bool, true};
 ghost use Prim.Native.Nat.{_≤_};
 ghost use Rattle.design.specs.Accepted.{isAccepted};
 ghost use Rattle.model.specs.Types.{Call};
 ghost use Rattle.model.specs.Formed.{framesFit, blockFits};
 ghost use Rattle.model.specs.Start.{zeroDesign};
 ghost use Rattle.model.specs.Queries.{isActive, activeVoices};
-ghost use Rattle.model.specs.Notes.{velocityOf, polyOff, monoOff, noteOffOf, startedNote};
+ghost use Rattle.design.specs.declared.PlayMode.the-variants.{Poly, Mono};
+ghost use Rattle.model.specs.Notes.{velocityOf, noteOffOf, startedNote};
 ghost use Rattle.formed.specs.Held.{heldFirst};
+ghost use Rattle.instrument.specs.declared.Instrument.{Instrument};
 ghost use Rattle.instrument.specs.View.{view, counted, formed as formedState};
-ghost use Rattle.instrument.specs.Calls.{emptyModel, refusedAs, answeredAs, barredBy, placedAs, holdingOf, tabledAs, tunedAs, FallsBack, lastHandle, StrikeAs, MonoAs, CallAs, StartAs, Gives};
+ghost use Rattle.instrument.specs.Calls.{emptyModel, refusedAs, answeredAs, barredBy, placedAs, holdingOf, tabledAs, fallBackOf, Reads, OffAs, lastHandle, StrikeAs, MonoAs, CallAs, StartAs, Gives};
 ghost use Rattle.instrument.specs.Plans.{blockedAs};
 ghost use Rattle.instrument.specs.Asked.{answerOf, askedOf, VoiceAs};
 use design::Adsr;
@@ -101,6 +103,18 @@ pub enum Answer {
 pub struct NewInstrument {
     pub reply: DesignReply,
     pub state: Instrument,
+}
+
+// What a note-off does.
+struct NoteOff {
+    // How many voices are looked through: all of them or none.
+    reach: usize,
+    // The voice that is looked for, and what becomes of it.
+    test: VoiceTest,
+    change: VoiceChange,
+    // The notes that stay held, and whether one was held.
+    rest: Held,
+    held: bool,
 }
 
 fn is_accepted(design: InstrumentDesign) -> bool
@@ -477,66 +491,98 @@ impl Instrument {
         let v = vs[k];
         Answer::Handle(v.handle)
     }
+}
 
-    // Poly note-off: the newest voice of the note that is neither releasing nor sustained.
-    fn poly_note_off(self, note: u8) -> Outcome
-        ensures { λ r. ⌜ (barredBy self ≡ 0 → Gives (polyOff (view self) note) r) ⌝ }
-    {
-        let vs = self.voices;
-        let n = self.voice_count;
-        let k = voices::find_last(vs, n, VoiceTest::Plays(note));
-        if n <= k {
-            return answered(Reply::Off(false), self);
-        }
-        let ws = voices::change_at(vs, n, k, VoiceChange::Off(self.sustain));
-        answered(Reply::Off(true), self.with_table(ws))
+// Where no other note is held the Mono voice goes off; else it falls back to the newest of them.
+fn fall_back(rest: Held, down: bool, glide: f32) -> VoiceChange
+    requires { ⌜ rest .count ≤ 256 ⌝ }
+    ensures { λ c. ⌜ c ≡ fallBackOf down glide (heldFirst (rest .count) (rest .notes)) ⌝ }
+{
+    let count = rest.count;
+    if count == 0 {
+        return VoiceChange::Off(down);
+    }
+    let notes = rest.notes;
+    let previous = notes[count - 1];
+    VoiceChange::AimAt(previous.0, glide)
+}
+
+// Of a note that is not held nothing is looked for.
+fn mono_note_off(holding: Held, n: usize, note: u8, down: bool, glide: f32) -> NoteOff
+    ensures { λ o. ⌜ ((s : Instrument) → Reads s holding n down → (b : Bool) → s .design .mode ≡ Mono b → s .design .glide ≡ glide → OffAs s note o) ⌝ }
+{
+    let held = holding.notes;
+    let rest = formed::held_without(held, holding.count, note);
+    if rest.count == holding.count {
+        return NoteOff {
+            reach: 0,
+            test: VoiceTest::Sounding,
+            change: VoiceChange::Off(down),
+            rest: holding,
+            held: false,
+        };
+    }
+    NoteOff {
+        reach: n,
+        test: VoiceTest::Sounding,
+        change: fall_back(rest, down, glide),
+        rest,
+        held: true,
+    }
+}
+
+// In Poly the newest voice of the note that is neither releasing nor sustained goes off.
+fn poly_note_off(holding: Held, n: usize, note: u8, down: bool) -> NoteOff
+    ensures { λ o. ⌜ ((s : Instrument) → Reads s holding n down → s .design .mode ≡ Poly → OffAs s note o) ⌝ }
+{
+    NoteOff {
+        reach: n,
+        test: VoiceTest::Plays(note),
+        change: VoiceChange::Off(down),
+        rest: holding,
+        held: false,
+    }
+}
+
+fn off_of(design: InstrumentDesign, holding: Held, n: usize, note: u8, down: bool) -> NoteOff
+    ensures { λ o. ⌜ ((s : Instrument) → Reads s holding n down → s .design ≡ design → OffAs s note o) ⌝ }
+{
+    let mode = design.mode;
+    match mode {
+        PlayMode::Poly => poly_note_off(holding, n, note, down),
+        PlayMode::Mono { legato: _ } => mono_note_off(holding, n, note, down, design.glide),
     }
 }
 
 impl Instrument {
-    // The table of a Mono note-off: the voice falls back to the newest note still held, or goes off where none is.
-    fn fall_back(self, rest: Held) -> [Voice; 64]
-        requires { ⌜ rest .count ≤ 256 ⌝ }
-        ensures { λ ws. ⌜ (barredBy self ≡ 0 → FallsBack self (heldFirst (rest .count) (rest .notes)) ws) ⌝ }
+    // The voice is looked for from the newest on.
+    fn off(mut self, note: u8) -> Outcome
+        requires { ⌜ barredBy self ≡ 0 ⌝ }
+        ensures { λ r. ⌜ Gives (noteOffOf (view self) note) r ⌝ }
     {
-        let vs = self.voices;
-        let n = self.voice_count;
-        let count = rest.count;
-        if count == 0 {
-            return voices::change_all(vs, n, VoiceChange::OffSounding(self.sustain));
-        }
-        let notes = rest.notes;
-        let previous = notes[count - 1];
         let design = self.design;
-        let k = voices::find_first(vs, n, VoiceTest::Sounding);
-        voices::change_at(vs, n, k, VoiceChange::AimAt(previous.0, design.glide))
-    }
-
-    fn mono_note_off(self, note: u8) -> Outcome
-        ensures { λ r. ⌜ (barredBy self ≡ 0 → Gives (monoOff (view self) note) r) ⌝ }
-    {
         let held = self.held;
-        let rest = formed::held_without(held, self.held_count, note);
-        if rest.count == self.held_count {
-            return answered(Reply::Off(false), self);
+        let holding = Held {
+            notes: held,
+            count: self.held_count,
+        };
+        let off = off_of(design, holding, self.voice_count, note, self.sustain);
+        let test = off.test;
+        let change = off.change;
+        let rest = off.rest;
+        let notes = rest.notes;
+        self.held = notes;
+        self.held_count = rest.count;
+        let mut i = off.reach;
+        while 0 < i {
+            let k = i - 1;
+            if self.voices[k].passes(test) {
+                self.voices[k] = self.voices[k].changed(change);
+                return answered(Reply::Off(true), self);
+            }
+            i = k;
         }
-        let ws = self.fall_back(rest);
-        let n = self.voice_count;
-        answered(
-            Reply::Off(true),
-            self.placed(ws, n, self.next_handle, self.sustain, rest),
-        )
-    }
-
-    fn off(self, note: u8) -> Outcome
-        ensures { λ r. ⌜ (barredBy self ≡ 0 → Gives (noteOffOf (view self) note) r) ⌝ }
-    {
-        let design = self.design;
-        let mode = design.mode;
-        match mode {
-            PlayMode::Poly => self.poly_note_off(note),
-            PlayMode::Mono { legato: _ } => self.mono_note_off(note),
-        }
+        answered(Reply::Off(off.held), self)
     }
 
     pub fn note_off(self, note: u8) -> Outcome

@@ -24,13 +24,13 @@ returns c = barred-call _ _ _ _ refl (c .before .before .barred .ensures) (c .be
 
 -- src/lib.rt:712:9
 off-requires : tie.Need-off-requires
-off-requires c κs = search needs
+off-requires c κs = sym (c .before .barred .ensures) ∙ c .if1 .left
 
 -- src/lib.rt:705:5
 returns-2 : tie.Need-returns-2
 returns-2 c =
     let b = c .before in
-    note-off-call _ _ _ (free _ (sym (b .before .barred .ensures) ∙ b .if1 .left)) (c .off .ensures (sym (b .before .barred .ensures) ∙ b .if1 .left))
+    note-off-call _ _ _ (free _ (sym (b .before .barred .ensures) ∙ b .if1 .left)) (c .off .ensures)
 
 pub note-off-spec : {M : Type 1} → statement M
 note-off-spec =

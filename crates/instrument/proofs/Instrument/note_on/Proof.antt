@@ -38,7 +38,7 @@ velocity-of-requires c κs = search needs
 
 -- src/lib.rt:799:13
 off-requires : tie.Need-off-requires
-off-requires c κs = search needs
+off-requires c κs = let b = c .before .before in sym (b .before .barred .ensures) ∙ b .if1 .left
 
 -- src/lib.rt:799:13
 returns-2 : tie.Need-returns-2
@@ -46,7 +46,7 @@ returns-2 c =
     let v = c .before .before in
     let b = v .before in
     let z = sym (b .before .barred .ensures) ∙ b .if1 .left in
-    on-off _ (free _ z) _ _ _ _ (off-is _ _ _ (v .velocity-of .ensures) (c .before .if2 .taken)) (c .off .ensures z)
+    on-off _ (free _ z) _ _ _ _ (off-is _ _ _ (v .velocity-of .ensures) (c .before .if2 .taken)) (c .off .ensures)
 
 -- src/lib.rt:804:43
 enum-told : tie.Need-enum-told

@@ -33,7 +33,7 @@ max-requires : tie.Need-max-requires Inv-loop μ-loop
 max-requires c κs = search needs
 
 loop-holds : tie.Need-loop-holds Inv-loop μ-loop
-loop-holds c = 
+loop-holds c =
     let e = c .before in
     let s = e .before .before in
     let f = free _ (sym (e .before .barred .ensures) ∙ e .if1 .left) in
@@ -62,7 +62,7 @@ loop-less c = omega arith
 
 loop-again : tie.Need-loop-again Inv-loop μ-loop
 unfolding placedAs
-loop-again c = 
+loop-again c =
     let b = c .before .before .before in
     let s = b .before .before .before .before in
     let len = voices-long (s .args .t1) (s .good .0) in
@@ -73,7 +73,7 @@ answered-requires c κs = search needs
 
 returns-2 : tie.Need-returns-2 Inv-loop μ-loop
 unfolding placedAs tunedAs
-returns-2 c = 
+returns-2 c =
     let b = c .before .before in
     let m = b .before in
     let d = m .before in

@@ -38,14 +38,14 @@ loop-less c = omega arith
 
 loop-again : tie.Need-loop-again Inv-loop μ-loop
 unfolding copied bent withBend
-loop-again c = 
+loop-again c =
     let b = c .before .before in
     let s = b .before .before in
     let len = copies-long (s .args .t1) (s .good .0) in
     (omega arith, copied-more (bent (s .args .mul)) (s .args .t1) len (b .loop .self) (b .loop .j) _ (b .loop .inv .1) (omega arith) (rw (b .before .max .ensures)))
 
 returns : tie.Need-returns Inv-loop μ-loop
-returns c = 
+returns c =
     let b = c .before in
     let s = b .before .before in
     let len = copies-long (s .args .t1) (s .good .0) in

@@ -44,14 +44,14 @@ loop-less c = omega arith
 
 loop-again : tie.Need-loop-again Inv-loop μ-loop
 unfolding copied
-loop-again c = 
+loop-again c =
     let b = c .before .before .before in
     let s = b .before in
     let len = copies-long (s .args .t1) (s .good .0) in
     (omega arith, copied-more (cutTo (s .args .scale)) (s .args .t1) len (b .loop .self) (b .loop .j) _ (b .loop .inv .1) (omega arith) (c .set-cutoff .ensures))
 
 returns : tie.Need-returns Inv-loop μ-loop
-returns c = 
+returns c =
     let b = c .before in
     let s = b .before in
     let len = copies-long (s .args .t1) (s .good .0) in
