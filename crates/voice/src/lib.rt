@@ -185,10 +185,10 @@ impl Voice {
     pub fn with_cutoff(mut self, scale: f32) -> Voice
         ensures { λ r. ⌜ seen r ≡ onSeen (withCopies (cutTo scale)) (seen self) ⌝ }
     {
-        let mut j: usize = 0;
-        while j < 8 {
-            self.copies[j] = self.copies[j].set_cutoff(scale);
-            j += 1;
+        let mut k: usize = 0;
+        while k < 8 {
+            self.copies[k] = self.copies[k].set_cutoff(scale);
+            k += 1;
         }
         self
     }

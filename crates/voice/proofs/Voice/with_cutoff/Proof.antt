@@ -12,10 +12,10 @@ use Rattle.voice.proofs.Voice.with_cutoff.Statement.{statement}
 use Rattle.voice.proofs.Voice.with_cutoff.Tie as tie
 
 abbrev Inv-loop : tie.InvT-loop
-Inv-loop scale self₀ j₀ self j = (j ≤ 8) × (self ≡ copied self₀ (mapped (cutTo scale) j (self₀ .copies)))
+Inv-loop scale self₀ k₀ self k = (k ≤ 8) × (self ≡ copied self₀ (mapped (cutTo scale) k (self₀ .copies)))
 
 abbrev μ-loop : tie.MeasureT-loop
-μ-loop scale self₀ j₀ self j = 8 - j
+μ-loop scale self₀ k₀ self k = 8 - k
 
 loop-holds : tie.Need-loop-holds Inv-loop μ-loop
 unfolding copied
@@ -36,8 +36,8 @@ mul-t11 c = omega arith
 element-set-from-self : tie.Need-element-set-from-self Inv-loop μ-loop
 element-set-from-self c = omega arith
 
-add-j : tie.Need-add-j Inv-loop μ-loop
-add-j c = omega arith
+add-k : tie.Need-add-k Inv-loop μ-loop
+add-k c = omega arith
 
 loop-less : tie.Need-loop-less Inv-loop μ-loop
 loop-less c = omega arith
@@ -48,14 +48,14 @@ loop-again c =
     let b = c .before .before .before in
     let s = b .before in
     let len = copies-long (s .args .t1) (s .good .0) in
-    (omega arith, copied-more (cutTo (s .args .scale)) (s .args .t1) len (b .loop .self) (b .loop .j) _ (b .loop .inv .1) (omega arith) (c .set-cutoff .ensures))
+    (omega arith, copied-more (cutTo (s .args .scale)) (s .args .t1) len (b .loop .self) (b .loop .k) _ (b .loop .inv .1) (omega arith) (c .set-cutoff .ensures))
 
 returns : tie.Need-returns Inv-loop μ-loop
 returns c =
     let b = c .before in
     let s = b .before in
     let len = copies-long (s .args .t1) (s .good .0) in
-    let e : b .loop .j ≡ 8 = omega arith in
+    let e : b .loop .k ≡ 8 = omega arith in
     ap seen (b .loop .inv .1 ∙ ap (λ (j : ℕ). copied (s .args .t1) (mapped (cutTo (s .args .scale)) j (s .args .t1 .copies))) e) ∙ copied-seen (cutTo (s .args .scale)) (s .args .t1) len
 
 pub with-cutoff-spec : {M : Type 1} → statement M
@@ -70,7 +70,7 @@ with-cutoff-spec =
     set-cutoff-requires
     mul-t11
     element-set-from-self
-    add-j
+    add-k
     loop-less
     loop-again
     returns)
