@@ -5,6 +5,8 @@ use design::InstrumentDesign;
 use design::Modulation;
 use design::PlayMode;
 use instrument::Instrument;
+use instrument::Outcome;
+use instrument::Reply;
 
 // How large a state is: the design's max and unison, and how many voices are struck before and after an all-off.
 pub struct Size {
@@ -49,6 +51,14 @@ fn start(size: Size, mode: PlayMode) -> Instrument {
 // The notes go round from 36 to 96.
 pub fn next_note(note: u8) -> u8 {
     if note < 96 { note + 1 } else { 36 }
+}
+
+// A state as a call would have given it back.
+pub fn answered(state: Instrument) -> Outcome {
+    Outcome {
+        reply: Reply::Done,
+        state,
+    }
 }
 
 pub fn on(s: Instrument, note: u8) -> Instrument {

@@ -1,20 +1,23 @@
 // One call again and again, each on the state that the one before gave.
 
+use crate::build;
 use crate::sums;
 use instrument::Instrument;
+use instrument::MixOutcome;
+use instrument::MixReply;
 use midi::Answer;
 use midi::Cursor;
 
 // After each plan the block is closed by hand, so that the next plan may open one.
 pub fn plans(start: Instrument, frames: usize, turns: usize, curve: &mut [f32]) -> Instrument {
-    let mut s = start;
+    let mut o = build::answered(start);
     let mut i: usize = 0;
     while i < turns {
-        let o = s.plan(frames, 1.0, 1.0, 0.0, curve);
-        s = o.state;
-        s.frames = 0;
+        o = o.state.plan(frames, 1.0, 1.0, 0.0, curve);
+        o.state.frames = 0;
         i += 1;
     }
+    let s = o.state;
     s
 }
 
@@ -26,14 +29,18 @@ pub fn mixes(
     samples: &[f32],
     out: &mut [f32],
 ) -> Instrument {
-    let mut s = start;
+    let mut o = MixOutcome {
+        reply: MixReply::Mixed(0),
+        ended: [0; 64],
+        state: start,
+    };
     let mut i: usize = 0;
     while i < turns {
-        s.frames = frames;
-        let o = s.mix(samples, out);
-        s = o.state;
+        o.state.frames = frames;
+        o = o.state.mix(samples, out);
         i += 1;
     }
+    let s = o.state;
     s
 }
 

@@ -6,10 +6,13 @@ use Rattle.bench.proofs.events.note_offs.Statement.{statement}
 use Rattle.bench.proofs.events.note_offs.Tie as tie
 
 abbrev Inv-loop : tie.InvT-loop
-Inv-loop turns s₀ sum₀ note₀ i₀ s sum note i = Unit {0}
+Inv-loop turns first step o₀ sum₀ note₀ i₀ o sum note i = Unit {0}
 
 abbrev μ-loop : tie.MeasureT-loop
-μ-loop turns s₀ sum₀ note₀ i₀ s sum note i = turns - i
+μ-loop turns first step o₀ sum₀ note₀ i₀ o sum note i = turns - i
+
+answered-requires : tie.Need-answered-requires Inv-loop μ-loop
+answered-requires c κs = search needs
 
 loop-holds : tie.Need-loop-holds Inv-loop μ-loop
 loop-holds c = search needs
@@ -20,8 +23,8 @@ note-off-requires c κs = search needs
 told-requires : tie.Need-told-requires Inv-loop μ-loop
 told-requires c κs = search needs
 
-next-note-requires : tie.Need-next-note-requires Inv-loop μ-loop
-next-note-requires c κs = search needs
+stepped-requires : tie.Need-stepped-requires Inv-loop μ-loop
+stepped-requires c κs = search needs
 
 add-i : tie.Need-add-i Inv-loop μ-loop
 add-i c = search needs
@@ -41,10 +44,11 @@ note-offs-spec =
     (tie.spec
     Inv-loop
     μ-loop
+    answered-requires
     loop-holds
     note-off-requires
     told-requires
-    next-note-requires
+    stepped-requires
     add-i
     loop-less
     loop-again

@@ -6,10 +6,13 @@ use Rattle.bench.proofs.events.note_ons.Statement.{statement}
 use Rattle.bench.proofs.events.note_ons.Tie as tie
 
 abbrev Inv-loop : tie.InvT-loop
-Inv-loop turns s₀ sum₀ note₀ i₀ s sum note i = Unit {0}
+Inv-loop turns o₀ sum₀ note₀ i₀ o sum note i = Unit {0}
 
 abbrev μ-loop : tie.MeasureT-loop
-μ-loop turns s₀ sum₀ note₀ i₀ s sum note i = turns - i
+μ-loop turns o₀ sum₀ note₀ i₀ o sum note i = turns - i
+
+answered-requires : tie.Need-answered-requires Inv-loop μ-loop
+answered-requires c κs = search needs
 
 loop-holds : tie.Need-loop-holds Inv-loop μ-loop
 loop-holds c = search needs
@@ -41,6 +44,7 @@ note-ons-spec =
     (tie.spec
     Inv-loop
     μ-loop
+    answered-requires
     loop-holds
     note-on-requires
     told-requires

@@ -8,10 +8,10 @@ use Rattle.bench.proofs.rounds.mixes.Statement.{statement}
 use Rattle.bench.proofs.rounds.mixes.Tie as tie
 
 abbrev Inv-loop : tie.InvT-loop
-Inv-loop frames turns samples out₀ s₀ i₀ out s i = length out ≡ length out₀
+Inv-loop frames turns samples out₀ o₀ i₀ out o i = length out ≡ length out₀
 
 abbrev μ-loop : tie.MeasureT-loop
-μ-loop frames turns samples out₀ s₀ i₀ out s i = turns - i
+μ-loop frames turns samples out₀ o₀ i₀ out o i = turns - i
 
 loop-holds : tie.Need-loop-holds Inv-loop μ-loop
 loop-holds c = search needs

@@ -8,10 +8,13 @@ use Rattle.bench.proofs.rounds.plans.Statement.{statement}
 use Rattle.bench.proofs.rounds.plans.Tie as tie
 
 abbrev Inv-loop : tie.InvT-loop
-Inv-loop frames turns curve₀ s₀ i₀ curve s i = length curve ≡ length curve₀
+Inv-loop frames turns curve₀ o₀ i₀ curve o i = length curve ≡ length curve₀
 
 abbrev μ-loop : tie.MeasureT-loop
-μ-loop frames turns curve₀ s₀ i₀ curve s i = turns - i
+μ-loop frames turns curve₀ o₀ i₀ curve o i = turns - i
+
+answered-requires : tie.Need-answered-requires Inv-loop μ-loop
+answered-requires c κs = search needs
 
 loop-holds : tie.Need-loop-holds Inv-loop μ-loop
 loop-holds c = search needs
@@ -40,6 +43,7 @@ plans-spec =
     (tie.spec
     Inv-loop
     μ-loop
+    answered-requires
     loop-holds
     plan-requires
     add-i
