@@ -1,6 +1,6 @@
 -- The ways out of a note-off.
 use mathlib.Core.Path.{_≡_, refl, ap, sym, subst, _∙_}
-use mathlib.Core.Bool.{Bool, true, false}
+use mathlib.Core.Bool.{Bool, true, false, cond}
 use mathlib.Core.List.{List, [], _∷_, map}
 use Prim.Native.Nat.{ℕ, _-_, _≤_, _<_}
 use native.Mathlib.Omega.{arith}
@@ -19,7 +19,7 @@ use Rattle.model.specs.Voices.{changed, isPlace, sounding, firstSounding, aimed
 use Rattle.model.specs.Notes.{offVoice, plays, newestOf, polyOff, heldWithout, notHeld, noneHeld, newestHeld, fallenBack, monoOff, noteOffIn, noteOffOf}
 use Rattle.voice.specs.View.{Seen}
 use Rattle.voices.specs.View.{seenFirst, voicesOf, inRoom}
-use Rattle.voice.specs.Changes.{onSeen, noSeen, offSounding, voiceChanged}
+use Rattle.voice.specs.Changes.{onSeen, noSeen, voiceChanged}
 use Rattle.voice.specs.declared.Voice.{Voice}
 use Rattle.voice.specs.declared.VoiceTest.the-variants.{Plays, Sounding}
 use Rattle.voice.specs.declared.VoiceChange.the-variants as Change
@@ -73,7 +73,7 @@ module _ (s : Instrument) (f : Free s) (lv : length (s .voices) ≡ 64) where
   -- Mono: at most one voice is not releasing
   module _ (lone : count sounding (voicesOf (tableOf s)) ≤ 1) (held : List ℕ) where
     abbrev sounds : M.Voice → M.Voice
-    sounds v = offSounding (s .sustain) v
+    sounds v = cond (v .releasing) v (offVoice (s .sustain) v)
 
     stays : (v : M.Voice) → sounding v ≡ false → sounds v ≡ v
     stays v e = cond-true (v .releasing) v (offVoice (s .sustain) v) (not-false (v .releasing) e)

@@ -13,7 +13,7 @@ ghost use Rattle.model.specs.Notes.{velocityOf, noteOffOf, startedNote};
 ghost use Rattle.formed.specs.Held.{heldFirst};
 ghost use Rattle.instrument.specs.declared.Instrument.{Instrument};
 ghost use Rattle.instrument.specs.View.{view, counted, formed as formedState};
-ghost use Rattle.instrument.specs.Calls.{emptyModel, refusedAs, answeredAs, barredBy, placedAs, holdingOf, tabledAs, fallBackOf, Reads, OffAs, lastHandle, StrikeAs, MonoAs, CallAs, StartAs, Gives};
+ghost use Rattle.instrument.specs.Calls.{emptyModel, refusedAs, answeredAs, barredBy, placedAs, holdingOf, fallBackOf, Reads, OffAs, lastHandle, StrikeAs, MonoAs, CallAs, StartAs, Gives};
 ghost use Rattle.instrument.specs.Plans.{blockedAs};
 ghost use Rattle.instrument.specs.Asked.{answerOf, askedOf, VoiceAs};
 use design::Adsr;
@@ -327,19 +327,6 @@ impl Instrument {
             notes,
             count: self.held_count,
         }
-    }
-
-    // The same state with another table of as many voices.
-    fn with_table(self, vs: [Voice; 64]) -> Instrument
-        ensures { λ r. ⌜ r ≡ tabledAs self vs ⌝ }
-    {
-        self.placed(
-            vs,
-            self.voice_count,
-            self.next_handle,
-            self.sustain,
-            self.holding(),
-        )
     }
 
     // Sustain pedal: on its release every sustained voice is released.

@@ -7,7 +7,7 @@ use Rattle.model.specs.Voices.{releasedVoice, withSustained, aimedAt, struckAga
 use Rattle.model.specs.Notes.{offVoice, keptVoice}
 use Rattle.model.specs.Controls.{liftedVoice}
 use Rattle.voice.specs.View.{Seen}
-use Rattle.voice.specs.Changes.{offSounding, onSeen}
+use Rattle.voice.specs.Changes.{onSeen}
 
 module _ (x : Seen) where
   pub off-down : (b : Bool) → b ≡ true → onSeen (withSustained true) x ≡ onSeen (offVoice b) x
@@ -17,14 +17,6 @@ module _ (x : Seen) where
   pub off-up : (b : Bool) → b ≡ false → onSeen releasedVoice x ≡ onSeen (offVoice b) x
   unfolding onSeen offVoice
   off-up b e = rw e
-
-  pub off-releasing : (b : Bool) → x .voice .releasing ≡ true → x ≡ onSeen (offSounding b) x
-  unfolding onSeen
-  off-releasing b e = rw e
-
-  pub off-sounds : (b : Bool) → x .voice .releasing ≡ false → onSeen (offVoice b) x ≡ onSeen (offSounding b) x
-  unfolding onSeen
-  off-sounds b e = rw e
 
   pub lift-held : x .voice .sustained ≡ true → onSeen (withSustained false) (onSeen releasedVoice x) ≡ onSeen liftedVoice x
   unfolding onSeen liftedVoice

@@ -1,37 +1,27 @@
 -- What a pass makes of one voice, and what it asks of one: a name for each change and each test, and the model's function that it stands for.
-use mathlib.Core.Bool.{Bool, cond}
+use mathlib.Core.Bool.{Bool}
 use Rattle.stream.specs.declared.UnisonCopy.{UnisonCopy}
 use Rattle.stream.specs.Pitch.{bent, cutTo, glidedTo}
 use Rattle.model.specs.Types as model
-use Rattle.model.specs.Voices.{releasedVoice, killedVoice, withSustained, withCopies, aimedAt, anyVoice, sounding, hasHandle}
+use Rattle.model.specs.Voices.{killedVoice, withCopies, aimedAt, anyVoice, sounding, hasHandle}
 use Rattle.model.specs.Notes.{offVoice, plays, keptVoice}
-use Rattle.model.specs.Controls.{liftedVoice}
 use Rattle.model.specs.Queries.{soundsNote}
 use Rattle.voice.specs.declared.CopyChange.{CopyChange}
-use Rattle.voice.specs.declared.CopyChange.the-variants.{Bend, Cut, Aim, Wobble}
+use Rattle.voice.specs.declared.CopyChange.the-variants.{Bend, Aim, Wobble}
 use Rattle.voice.specs.declared.VoiceChange.{VoiceChange}
-use Rattle.voice.specs.declared.VoiceChange.the-variants.{Release, Kill, Sustain, Off, OffSounding, Lift, Copies, AimAt, Keep}
+use Rattle.voice.specs.declared.VoiceChange.the-variants.{Kill, Off, Copies, AimAt, Keep}
 use Rattle.voice.specs.declared.VoiceTest.{VoiceTest}
 use Rattle.voice.specs.declared.VoiceTest.the-variants.{Any, Sounding, Handle, Plays, SoundsNote}
 use Rattle.voice.specs.View.{Seen}
 
 abbrev pub copyChanged : CopyChange → UnisonCopy → UnisonCopy
 copyChanged (Bend x) c = bent x c
-copyChanged (Cut x) c = cutTo x c
 copyChanged (Aim scale coeff) c = glidedTo scale coeff c
 copyChanged (Wobble bend cutoff) c = cutTo cutoff (bent bend c)
 
--- a voice that is releasing already stays
-abbrev pub offSounding : Bool → model.Voice → model.Voice
-offSounding down v = cond (v .releasing) v (offVoice down v)
-
 abbrev pub voiceChanged : VoiceChange → model.Voice → model.Voice
-voiceChanged Release v = releasedVoice v
 voiceChanged Kill v = killedVoice v
-voiceChanged (Sustain b) v = withSustained b v
 voiceChanged (Off down) v = offVoice down v
-voiceChanged (OffSounding down) v = offSounding down v
-voiceChanged Lift v = liftedVoice v
 voiceChanged (Copies change) v = withCopies (copyChanged change) v
 voiceChanged (AimAt note coeff) v = aimedAt coeff note v
 voiceChanged (Keep note coeff legato velocity) v = keptVoice coeff legato note velocity v

@@ -13,7 +13,7 @@ ghost use Rattle.model.specs.Controls.{liftedVoice};
 ghost use Rattle.model.specs.Queries.{soundsNote};
 ghost use Rattle.stream.specs.Pitch.{bent, cutTo};
 ghost use Rattle.voice.specs.View.{shown, seen};
-ghost use Rattle.voice.specs.Changes.{copyChanged, offSounding, voiceChanged, testOf, onSeen};
+ghost use Rattle.voice.specs.Changes.{copyChanged, voiceChanged, testOf, onSeen};
 use design::InstrumentDesign;
 use envelope::EnvGen;
 use note::Note;
@@ -38,7 +38,6 @@ pub struct Voice {
 // What may be made of a copy.
 pub enum CopyChange {
     Bend(f32),
-    Cut(f32),
     // The pitch scale to aim at, and the coefficient.
     Aim(f32, f32),
     // The bend, then the cutoff.
@@ -47,15 +46,9 @@ pub enum CopyChange {
 
 // What may be made of a voice.
 pub enum VoiceChange {
-    Release,
     Kill,
-    Sustain(bool),
     // A note-off with the pedal down, or not.
     Off(bool),
-    // The same, unless the voice is releasing.
-    OffSounding(bool),
-    // The pedal goes up.
-    Lift,
     Copies(CopyChange),
     // The note to aim at, and the coefficient.
     AimAt(u8, f32),
@@ -85,7 +78,6 @@ fn change_copy(c: UnisonCopy, change: CopyChange) -> UnisonCopy
 {
     match change {
         CopyChange::Bend(x) => c.set_bend(x),
-        CopyChange::Cut(x) => c.set_cutoff(x),
         CopyChange::Aim(scale, coeff) => c.glide_pitch(scale, coeff),
         CopyChange::Wobble(bend, cutoff) => c.set_bend(bend).set_cutoff(cutoff),
     }
@@ -140,12 +132,6 @@ impl Voice {
         } else {
             self.released()
         }
-    }
-
-    fn off_sounding(self, down: bool) -> Voice
-        ensures { λ r. ⌜ seen r ≡ onSeen (offSounding down) (seen self) ⌝ }
-    {
-        if self.releasing { self } else { self.off(down) }
     }
 
     // The pedal goes up: a sustained voice is released.
@@ -226,12 +212,8 @@ impl Voice {
         ensures { λ r. ⌜ seen r ≡ onSeen (voiceChanged change) (seen self) ⌝ }
     {
         match change {
-            VoiceChange::Release => self.released(),
             VoiceChange::Kill => self.killed(),
-            VoiceChange::Sustain(b) => self.with_sustained(b),
             VoiceChange::Off(down) => self.off(down),
-            VoiceChange::OffSounding(down) => self.off_sounding(down),
-            VoiceChange::Lift => self.lifted(),
             VoiceChange::Copies(c) => self.with_copies(c),
             VoiceChange::AimAt(note, coeff) => self.aimed_at(note, coeff),
             VoiceChange::Keep(note, coeff, legato, velocity) => {

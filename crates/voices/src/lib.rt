@@ -7,7 +7,7 @@ ghost use Prim.Native.Nat.{_+_, _-_, _*_, _<_, _≤_, min};
 ghost use lib.Dec.{eqb};
 ghost use lib.ListN.{getD, set};
 ghost use Rattle.lists.specs.Count.{oneIf, count};
-ghost use Rattle.lists.specs.Places.{findAt, lastAt, without};
+ghost use Rattle.lists.specs.Places.{findAt, without};
 ghost use Rattle.lists.specs.Least.{lowest, lowestNext};
 ghost use Rattle.model.specs.Types.{noVoice};
 ghost use Rattle.model.specs.Voices.{quieter, copiesIn};
@@ -86,22 +86,6 @@ pub fn find_first(vs: [Voice; 64], n: usize, test: VoiceTest) -> usize
         i += 1;
     }
     i
-}
-
-// The place of the last that passes, and the count of the table where none does.
-pub fn find_last(vs: [Voice; 64], n: usize, test: VoiceTest) -> usize
-    ensures { λ r. ⌜ r ≡ lastAt (testOf test) (voicesOf (seenFirst n vs)) ⌝ }
-{
-    let m = room(n);
-    let mut i = m;
-    while 0 < i {
-        let k = i - 1;
-        if vs[k].passes(test) {
-            return k;
-        }
-        i = k;
-    }
-    m
 }
 
 // The quietest of the first i voices is at k, with k at i where there is none. This is its place among one more,

@@ -19,37 +19,28 @@ set-bend-requires c κs = search needs
 enum-known-change-2 : tie.Need-enum-known-change-2
 enum-known-change-2 c = search needs
 
-set-cutoff-requires : tie.Need-set-cutoff-requires
-set-cutoff-requires c κs = search needs
+glide-pitch-requires : tie.Need-glide-pitch-requires
+glide-pitch-requires c κs = search needs
 
 enum-known-change-3 : tie.Need-enum-known-change-3
 enum-known-change-3 c = search needs
 
-glide-pitch-requires : tie.Need-glide-pitch-requires
-glide-pitch-requires c κs = search needs
-
-enum-known-change-4 : tie.Need-enum-known-change-4
-enum-known-change-4 c = search needs
-
 set-bend-requires-2 : tie.Need-set-bend-requires-2
 set-bend-requires-2 c κs = search needs
 
-set-cutoff-requires-2 : tie.Need-set-cutoff-requires-2
-set-cutoff-requires-2 c κs = search needs
+set-cutoff-requires : tie.Need-set-cutoff-requires
+set-cutoff-requires c κs = search needs
 
 returns : tie.Need-returns
 returns c = c .set-bend .ensures ∙ within _ _ _ (c .before .before .change .given .1)
 
 returns-2 : tie.Need-returns-2
-returns-2 c = c .set-cutoff .ensures ∙ within _ _ _ (c .before .before .change2 .given .1)
+returns-2 c = c .glide-pitch .ensures ∙ within _ _ _ (c .before .before .change2 .given .1)
 
 returns-3 : tie.Need-returns-3
-returns-3 c = c .glide-pitch .ensures ∙ within _ _ _ (c .before .before .change3 .given .1)
-
-returns-4 : tie.Need-returns-4
-returns-4 c =
+returns-3 c =
     let b = c .before .before in
-    c .set-cutoff2 .ensures ∙ ap (cutTo _) (c .before .set-bend2 .ensures) ∙ within _ _ _ (b .before .change4 .given .1)
+    c .set-cutoff .ensures ∙ ap (cutTo _) (c .before .set-bend2 .ensures) ∙ within _ _ _ (b .before .change3 .given .1)
 
 pub change-copy-spec : {M : Type 1} → statement M
 change-copy-spec =
@@ -58,13 +49,10 @@ change-copy-spec =
     enum-known-change
     set-bend-requires
     enum-known-change-2
-    set-cutoff-requires
-    enum-known-change-3
     glide-pitch-requires
-    enum-known-change-4
+    enum-known-change-3
     set-bend-requires-2
-    set-cutoff-requires-2
+    set-cutoff-requires
     returns
     returns-2
-    returns-3
-    returns-4)
+    returns-3)
