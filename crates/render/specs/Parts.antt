@@ -3,7 +3,7 @@ use mathlib.Core.Path.{_≡_}
 use mathlib.Core.List.{List}
 use Prim.Native.Nat.{ℕ, _+_}
 use lib.Ieee.{Float}
-use lib.ListN.{length, take, drop}
+use lib.ListN.{take, drop}
 use Rattle.lists.specs.Prefix.{fold}
 use Rattle.stream.specs.declared.UnisonCopy.{UnisonCopy}
 use Rattle.model.specs.Types as model
@@ -40,5 +40,3 @@ addFour g at n m xs es cs =
 pub record BothSides {A : Type 0} (added : A → List Float → List Float) (x y : A) (left₀ right₀ left right : List Float) : Type 0 where
   pub onLeft : left ≡ added x left₀
   pub onRight : right ≡ added y right₀
-  pub leftSize : length left ≡ 64
-  pub rightSize : length right ≡ 64
