@@ -139,3 +139,54 @@ module _ (side : UnisonCopy → Float) (n : ℕ) (trem : Float) (xs : List Float
       let f : take n now ≡ take n whole = rw e at (d .front) in
       let b : drop n now ≡ drop n whole = rw e at (d .back) ∙ sym (voice-past side n trem (mixing xs old) v) in
       sym (take-append-drop n now) ∙ rw (f, b) (take-append-drop n whole)
+
+-- ---- the voices of a table
+
+module _ (side : UnisonCopy → Float) (n : ℕ) where
+  -- the first n sums
+  abbrev front : Mixing → Mixing
+  front z = mixing (z .samples) (take n (z .sums))
+
+  front-copy : (es : List Float) → length es ≡ n → (z : Mixing) (c : UnisonCopy) → front (sideCopy side n es z c) ≡ sideCopy side n es (front z) c
+  unfolding sideCopy
+  front-copy es h z c =
+      let l : length es ≤ n = omega arith in
+      rw (take-side (side c) n, take-take n n (z .samples) (omega arith), take-all n es l)
+
+  front-voice : (trem : Float) (z : Mixing) (v : model.Voice) → front (sideVoice side n trem z v) ≡ sideVoice side n trem (front z) v
+  unfolding sideVoice
+  front-voice trem z v =
+      let es = levels (v .gain) trem n (v .env) in
+      fold-see front (sideCopy side n es) (sideCopy side n es) (front-copy es (length-levels (v .gain) trem n (v .env))) z (v .copies)
+
+  -- k sums from zeros: the first n are the whole side
+  pub first-sums : (k : ℕ) (trem : Float) (xs o : List Float) (vs : List model.Voice) → n ≤ k
+      → o ≡ fold (sideVoice side n trem) (mixing xs (replicate k +0)) vs .sums → take n o ≡ sideMix side n trem xs vs
+  unfolding sideMix
+  first-sums k trem xs o vs h e =
+      let zeros : take n (replicate k +0) ≡ replicate n +0 = part-replicate zero n k +0 (omega arith) in
+      let seen = fold-see front (sideVoice side n trem) (sideVoice side n trem) (front-voice trem) (mixing xs (replicate k +0)) vs in
+      rw e (ap (λ (z : Mixing). z .sums) seen ∙ rw zeros)
+
+  -- what a voice uses up
+  left-copies : (es : List Float) (z : Mixing) (cs : List UnisonCopy) → fold (sideCopy side n es) z cs .samples ≡ drop (n * length cs) (z .samples)
+  unfolding sideCopy
+  left-copies es z [] = rw mul-zero
+  left-copies es z (c ∷ cs) =
+      let e : n + n * length cs ≡ n * suc (length cs) = rw mul-suc (omega arith) in
+      left-copies es (sideCopy side n es z c) cs ∙ drop-drop (n * length cs) n (z .samples) ∙ rw e
+
+  left-voice : (trem : Float) (z : Mixing) (v : model.Voice) → sideVoice side n trem z v .samples ≡ drop (n * length (v .copies)) (z .samples)
+  unfolding sideVoice
+  left-voice trem z v = left-copies (levels (v .gain) trem n (v .env)) z (v .copies)
+
+  -- v is the voice at i, with k copies
+  pub voice-more : (trem : Float) (xs : List Float) (z : Mixing) (vs : List model.Voice) (p i k : ℕ) (o w : List Float) (v : model.Voice)
+      → i < length vs → getD vs i model.noVoice ≡ v → k ≡ length (v .copies) → w ≡ sideVoice side n trem (mixing (drop p xs) o) v .sums
+      → mixing (drop p xs) o ≡ fold (sideVoice side n trem) z (take i vs)
+      → mixing (drop (p + n * k) xs) w ≡ fold (sideVoice side n trem) z (take (i + 1) vs)
+  voice-more trem xs z vs p i k o w v h g r e s =
+      let left : sideVoice side n trem (mixing (drop p xs) o) v .samples ≡ drop (p + n * k) xs =
+      rw (← r) at (left-voice trem (mixing (drop p xs) o) v ∙ drop-drop (n * length (v .copies)) p xs) in
+      let turn : mixing (drop (p + n * k) xs) w ≡ sideVoice side n trem (mixing (drop p xs) o) v = rw (← left, e) in
+      turn ∙ rw (s, fold-more (sideVoice side n trem) z vs i model.noVoice h, g)

@@ -175,7 +175,17 @@ fn add_parts(
         let end = a + m;
         let filled = levels::fill(e, v.gain, trem, m);
         let env = filled.levels;
-        add_copies(v, samples, p, n, a, &env, m, &mut left[a..end], &mut right[a..end]);
+        add_copies(
+            v,
+            samples,
+            p,
+            n,
+            a,
+            &env,
+            m,
+            &mut left[a..end],
+            &mut right[a..end],
+        );
         e = filled.env;
         a = end;
     }
