@@ -8,28 +8,28 @@ use borrow.Author.Tests.{le-leb, eq-eqb, ne-eqb, eqb-true, not-false}
 use lib.Dec.{eqb, leb}
 use lib.Ieee.{Float}
 use lib.ListN.{length, take, drop, getD, set, replicate, length-replicate}
-use Rattle.lists.specs.Choose.{both, cond-false}
+use lib.Seq.{take-all}
+use Rattle.lists.specs.Choose.{both}
+use Rattle.lists.specs.All.{all-kept}
+use Rattle.lists.specs.Pass.{pass-start, maps-more}
+use Rattle.lists.specs.Prefix.{fold}
+use Rattle.float32.specs.Numbers.{zero as +0}
+use Rattle.stream.specs.declared.UnisonCopy.{UnisonCopy}
 use Rattle.design.specs.declared.InstrumentDesign.{InstrumentDesign}
 use Rattle.model.specs.Types as M
 use Rattle.model.specs.Changes.{blocked}
-use Rattle.model.specs.Formed.{framesFit, blockFits, wellFormed}
+use Rattle.model.specs.Formed.{blockFits, wellFormed}
 use Rattle.model.specs.Voices.{agedVoice, isEnded, copiesIn}
 use Rattle.model.specs.Mix.{Mixing, mixing, sideVoice, sideMix, interleave, onLeft, onRight, output, played, remaining, endedHandles, report, mixOf}
-use Rattle.model.specs.Step.{noBlock, blockOpen, blockMissing, handlesSpent, refusal, accepted}
+use Rattle.model.specs.Step.{noBlock, blockOpen, blockMissing, handlesSpent, refusal}
 use Rattle.model.proofs.Refusals.{Passes, passes}
 use Rattle.voice.specs.declared.Voice.{Voice}
-use Rattle.voices.specs.View.{seenFirst, voicesOf, inRoom}
 use Rattle.voice.specs.View.{Seen, shown, seen}
-use Rattle.voices.specs.Changes.{map-seen, room-map}
-use Rattle.lists.specs.All.{all-kept}
-use lib.Seq.{take-all}
 use Rattle.voice.specs.Changes.{onSeen}
 use Rattle.voice.proofs.Sizes.{pastEnd}
+use Rattle.voices.specs.View.{seenFirst, voicesOf, inRoom}
+use Rattle.voices.specs.Changes.{map-seen, room-map}
 use Rattle.voices.proofs.Table.{table, table-size, in-table, read-here, rows-left}
-use Rattle.lists.specs.Pass.{pass-start, maps-more}
-use Rattle.lists.specs.Prefix.{fold}
-use Rattle.stream.specs.declared.UnisonCopy.{UnisonCopy}
-use Rattle.float32.specs.Numbers.{zero as +0}
 use Rattle.render.specs.Mixes.{Fits, AddedAs, FitsOut}
 use Rattle.render.proofs.Parts.{voice-more, first-sums}
 use Rattle.render.proofs.Retaining.{Retaining, goesOn, remaining-seen, retain-on, retain-not}
@@ -42,7 +42,6 @@ use Rattle.instrument.specs.declared.MixOutcome.{MixOutcome}
 use Rattle.instrument.specs.declared.MixReply.the-variants.{Mixed}
 use Rattle.instrument.proofs.Formed.{tableOf}
 use Rattle.instrument.proofs.Calls.{counts, counted-of, refusal-in, refused-call, accepted-step}
-use Rattle.instrument.proofs.Controls.{mapped-room, mapped-voices}
 use Rattle.instrument.proofs.Plans.{Rows, frames-most, refused-lent, accepted-lent}
 
 -- an open block is no longer than the longest

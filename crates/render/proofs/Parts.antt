@@ -1,15 +1,14 @@
 -- A voice goes through a block in parts: the parts make the whole. And the first frames of a mix that has places for more.
 use mathlib.Core.Path.{_≡_, refl, ap, sym, _∙_}
-use mathlib.Core.List.{List, [], _∷_, _++_}
+use mathlib.Core.List.{List, [], _∷_, _++_, append-assoc}
 use Prim.Native.Nat.{ℕ, zero, suc, _+_, _-_, _*_, _≤_, _<_}
 use native.Mathlib.Nat.{mul-zero, mul-suc}
 use native.Mathlib.Omega.{arith}
-use borrow.Rule.Slice.PartMut.{putMid, same-len-mid, drop-put}
 use lib.Ieee.{Float, binary32, add, mul}
-use lib.ListN.{length, take, drop, replicate, getD, take-append-drop}
-use lib.Seq.{take-take, take-all, take-add, drop-drop}
+use lib.ListN.{length, take, drop, replicate, getD, length-append, length-take, take-append-drop}
+use lib.Seq.{take-take, take-all, take-add, drop-drop, drop-append-seam}
 use Rattle.lists.specs.Prefix.{fold, fold-more, fold-see}
-use Rattle.lists.specs.Parts.{part-size, part-front, part-take, part-replicate, rest-on}
+use Rattle.lists.specs.Parts.{part-length, part-size, part-front, part-take, part-replicate, rest-on}
 use Rattle.float32.specs.Numbers.{zero as +0}
 use Rattle.envelope.specs.declared.EnvGen.{EnvGen}
 use Rattle.envelope.specs.Ticks.{ticked}
@@ -89,6 +88,14 @@ module _ (side : UnisonCopy → Float) (n a m : ℕ) (h : a + m ≤ n) where
 
 -- ---- one side of one voice
 
+-- ys stands for the k elements from `at` on, and those behind are as they were
+part-rest : (at k : ℕ) (xs ys : List Float) → at + k ≤ length xs → length ys ≡ k → drop (at + k) (take at xs ++ (ys ++ drop k (drop at xs))) ≡ drop (at + k) xs
+part-rest at k xs ys h e =
+    let front = take at xs ++ ys in
+    let l : length front ≡ at + k = simp (length-append, length-take) (omega arith) in
+    let seam : drop (at + k) (front ++ drop k (drop at xs)) ≡ drop k (drop at xs) = rw l at (drop-append-seam front (drop k (drop at xs))) in
+    rw (← append-assoc (take at xs) ys (drop k (drop at xs))) (seam ∙ drop-drop k at xs)
+
 module _ (side : UnisonCopy → Float) (n : ℕ) where
   copies-past : (es : List Float) (z : Mixing) (cs : List UnisonCopy) → drop n (fold (sideCopy side n es) z cs .sums) ≡ drop n (z .sums)
   unfolding sideCopy
@@ -119,7 +126,7 @@ module _ (side : UnisonCopy → Float) (n : ℕ) (trem : Float) (xs : List Float
 
   pub added-more : (a m : ℕ) (es now new : List Float) → a + m ≤ n → n ≤ length old → es ≡ levels (v .gain) trem m (aged a (v .env))
       → new ≡ fold (partCopy side n a m es) (mixing xs (take (a + m - a) (drop a now))) (v .copies) .sums → length new ≡ length (take (a + m - a) (drop a now))
-      → Added side n trem xs v old a now → Added side n trem xs v old (a + m) (putMid a (a + m - a) now new)
+      → Added side n trem xs v old a now → Added side n trem xs v old (a + m) (take a now ++ (new ++ drop (a + m - a) (drop a now)))
   added-more a m es now new h fits l e size d =
       let k : a + m - a ≡ m = omega arith in
       let room : a + m ≤ length now = let g = d .size in omega arith in
@@ -129,8 +136,8 @@ module _ (side : UnisonCopy → Float) (n : ℕ) (trem : Float) (xs : List Float
       let here : new ≡ take m (drop a whole) = rw (k, l, d .back) at e ∙ sym (voice-part side n a m h trem (mixing xs old) v) in
       record {
         front = rw (k, part-front a m now new room many, d .front, here) (sym (take-add a m whole));
-        back = drop-put a (a + m) now new (omega arith) room (omega arith) ∙ rest-on a (a + m) now old (omega arith) (d .back);
-        size = same-len-mid a (a + m - a) now new size ∙ d .size;
+        back = rw k (part-rest a m now new room many ∙ rest-on a (a + m) now old (omega arith) (d .back));
+        size = rw k (part-length a m now new room many ∙ d .size);
       }
 
   pub added-all : (a : ℕ) (now : List Float) → a ≡ n → Added side n trem xs v old a now → now ≡ sideVoice side n trem (mixing xs old) v .sums

@@ -1,5 +1,5 @@
 -- The pass that drops ended voices and reports them, at one turn.
-use mathlib.Core.Path.{_≡_, refl, ap, sym}
+use mathlib.Core.Path.{_≡_, refl, sym}
 use mathlib.Core.Bool.{Bool, true, false, not}
 use mathlib.Core.List.{List, [], _∷_, _++_, map, map-append, append-assoc, append-nil}
 use Prim.Native.Nat.{ℕ, suc, _+_, _-_, _≤_, _<_}
@@ -12,8 +12,7 @@ use Rattle.model.specs.Types as model
 use Rattle.model.specs.Voices.{isEnded}
 use Rattle.model.specs.Mix.{remaining, endedHandles}
 use Rattle.voice.specs.declared.Voice.{Voice}
-use Rattle.voice.specs.View.{shown}
-use Rattle.voice.specs.View.{Seen, seen}
+use Rattle.voice.specs.View.{shown, Seen, seen}
 use Rattle.voices.specs.View.{voicesOf}
 
 -- 64 places, "with a count and zeros behind"

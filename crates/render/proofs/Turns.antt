@@ -7,13 +7,12 @@ use native.Mathlib.Numerals.{add-one}
 use native.Mathlib.Omega.{arith}
 use lib.Ieee.{Float, nan, binary32, add, mul}
 use lib.ListN.{length, take, drop, getD, set, length-set, length-take, length-drop}
-use lib.Seq.{getD-drop, getD-take, set-getD, drop-drop, take-add, take-suc-set}
+use lib.Seq.{getD-drop, getD-take, set-getD, drop-drop, take-suc-set}
 use Rattle.lists.specs.Prefix.{take-more, fold, fold-more}
 use Rattle.stream.specs.declared.UnisonCopy.{UnisonCopy}
-use Rattle.model.specs.Types as model
-use Rattle.model.specs.Mix.{levels, addSide, Mixing, mixing, interleave, onLeft, onRight}
+use Rattle.model.specs.Mix.{addSide, Mixing, mixing, interleave}
 use Rattle.voice.proofs.Sizes.{noCopy}
-use Rattle.render.specs.Parts.{row, partCopy, partVoice, Gains, addFour, BothSides}
+use Rattle.render.specs.Parts.{row, partCopy, Gains, addFour}
 use Rattle.model.proofs.Laws.{length-add}
 
 -- ---- one frame

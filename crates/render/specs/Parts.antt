@@ -4,22 +4,16 @@ use mathlib.Core.List.{List}
 use Prim.Native.Nat.{ℕ, _+_}
 use lib.Ieee.{Float}
 use lib.ListN.{take, drop}
-use Rattle.lists.specs.Prefix.{fold}
 use Rattle.stream.specs.declared.UnisonCopy.{UnisonCopy}
-use Rattle.model.specs.Types as model
-use Rattle.model.specs.Mix.{levels, addSide, Mixing, mixing}
+use Rattle.model.specs.Mix.{addSide, Mixing, mixing}
 
 -- the m samples from `at` on
 abbrev pub row : ℕ → ℕ → List Float → List Float
 row at m xs = take m (drop at xs)
 
--- `sideCopy` and `sideVoice` of a part; a copy has n samples
-module _ (gainOf : UnisonCopy → Float) (n a m : ℕ) where
-  unfoldable pub partCopy : List Float → Mixing → UnisonCopy → Mixing
-  partCopy es z c = mixing (drop n (z .samples)) (addSide (gainOf c) (row a m (z .samples)) es (z .sums))
-
-  unfoldable pub partVoice : Float → Mixing → model.Voice → Mixing
-  partVoice trem z v = fold (partCopy (levels (v .gain) trem m (v .env))) z (v .copies)
+-- `sideCopy` of a part; a copy has n samples
+unfoldable pub partCopy : (UnisonCopy → Float) → ℕ → ℕ → ℕ → List Float → Mixing → UnisonCopy → Mixing
+partCopy gainOf n a m es z c = mixing (drop n (z .samples)) (addSide (gainOf c) (row a m (z .samples)) es (z .sums))
 
 -- four copies, one after the other
 pub record Gains : Type 0 where

@@ -197,10 +197,10 @@ fn stand_from(p: usize, n: usize, k: usize, len: usize) -> bool
     requires { ⌜ (n ≤ 1024) × (k ≤ 8) ⌝ }
     ensures { λ r. ⌜ r ≡ leb (p + n * k) len ⌝ }
 {
-    if p > len {
-        return false;
+    if p <= len {
+        return n * k <= len - p;
     }
-    n * k <= len - p
+    false
 }
 
 // One voice goes into the sums of both sides, its samples from p on, and is n frames older. Where something does not fit, all is left as it is.

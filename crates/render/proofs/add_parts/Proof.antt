@@ -1,10 +1,8 @@
 use mathlib.Core.Path.{_≡_, refl, ap, sym, _∙_}
-use mathlib.Core.List.{List}
-use Prim.Native.Nat.{ℕ, _+_, _*_, _≤_, _-_, min}
+use Prim.Native.Nat.{_+_, _≤_, _-_, min}
 use native.Mathlib.Omega.{arith}
 use borrow.Author.Needs.{needs}
-use lib.ListN.{length, take, drop}
-use Rattle.lists.specs.Parts.{part-size}
+use lib.ListN.{take, drop}
 use Rattle.levels.proofs.Frames.{aged-add}
 use Rattle.model.specs.Voices.{aged}
 use Rattle.model.specs.Mix.{levels, onLeft, onRight}

@@ -18,14 +18,14 @@ behind x p len h = by (leb x (len - p)) refl
 beyond : (x p len : ℕ) → len < p → false ≡ leb (p + x) len
 beyond x p len h = sym (lt-leb (p + x) len (omega arith))
 
-returns : tie.Need-returns
-returns c = let x = c .before .args in beyond (x .n * x .k) (x .p) (x .len) (omega arith)
-
 mul-result : tie.Need-mul-result
 mul-result c = omega (arith, mul-le-mul-left (c .before .args .n) (c .before .pre .1))
 
+returns : tie.Need-returns
+returns c = let x = c .before .args in behind (x .n * x .k) (x .p) (x .len) (omega arith)
+
 returns-2 : tie.Need-returns-2
-returns-2 c = let x = c .before .args in behind (x .n * x .k) (x .p) (x .len) (omega arith)
+returns-2 c = let x = c .before .args in beyond (x .n * x .k) (x .p) (x .len) (omega arith)
 
 pub stand-from-spec : {M : Type 1} → statement M
-stand-from-spec = tie.close (tie.spec returns mul-result returns-2)
+stand-from-spec = tie.close (tie.spec mul-result returns returns-2)
