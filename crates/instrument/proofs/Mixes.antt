@@ -1,4 +1,4 @@
--- The ways out of Mix.
+-- The ways out of Mix, and its loop over the voices.
 use mathlib.Core.Path.{_≡_, refl, ap, sym, _∙_}
 use mathlib.Core.Bool.{Bool, true, false, not, _||_}
 use mathlib.Core.List.{List, [], _∷_, _++_, map}
@@ -115,14 +115,9 @@ pub record Aged (s t : Instrument) (ended : List ℕ) (gone kept i : ℕ) : Type
   pub table : Retaining (map (onSeen (agedVoice (s .frames))) (seenFirst i (s .voices))) kept gone i (t .voices) ended (s .voices)
 
 -- another table in a state that had another one already
-over : (s t : Instrument) (ws : List Voice) (c f : ℕ) → t ≡ blockedAs s ws c f → (vs : List Voice) (k g : ℕ) → t .«voice_count» ≡ k → t .frames ≡ g
-    → blockedAs t vs (t .«voice_count») (t .frames) ≡ blockedAs s vs k g
+retabled : (s t : Instrument) (ws : List Voice) (c f : ℕ) → t ≡ blockedAs s ws c f → (vs : List Voice) (k g : ℕ) → blockedAs t vs k g ≡ blockedAs s vs k g
 unfolding blockedAs
-over s t ws c f e vs k g a b = rw (a, b, e)
-
-closing : (s t : Instrument) (ws : List Voice) (c f : ℕ) → t ≡ blockedAs s ws c f → (vs : List Voice) (k g : ℕ) → blockedAs t vs k g ≡ blockedAs s vs k g
-unfolding blockedAs
-closing s t ws c f e vs k g = rw e
+retabled s t ws c f e vs k g = rw e
 
 pub aged-none : (s : Instrument) → Aged s s (replicate 64 0) 0 0 0
 unfolding blockedAs endedHandles
@@ -160,10 +155,13 @@ module _ (s : Instrument) (i : ℕ) (v : Voice) (len : length (s .voices) ≡ 64
 
     pub aged-on : not (isEnded (shown w)) ≡ true → Aged s (blockedAs t (set (t .voices) kept w) (t .«voice_count») (t .frames)) ended gone (kept + 1) (i + 1)
     unfolding blockedAs
-    aged-on b = record {
-      others = over s t _ _ _ (d .others) (set (t .voices) kept w) (s .«voice_count») (s .frames) (ap (λ (t : Instrument). t .«voice_count») (d .others)) (ap (λ (t : Instrument). t .frames) (d .others));
-      table = rw more (retain-on w (d .table) b (omega arith));
-    }
+    aged-on b =
+        let n : t .«voice_count» ≡ s .«voice_count» = ap (λ (u : Instrument). u .«voice_count») (d .others) in
+        let f : t .frames ≡ s .frames = ap (λ (u : Instrument). u .frames) (d .others) in
+        record {
+          others = rw (n, f) (retabled s t _ _ _ (d .others) (set (t .voices) kept w) (s .«voice_count») (s .frames));
+          table = rw more (retain-on w (d .table) b (omega arith));
+        }
 
     pub aged-not : not (isEnded (shown w)) ≡ false → Aged s t (set ended gone (w .handle)) (gone + 1) kept (i + 1)
     aged-not b = record { others = d .others; table = rw more (retain-not w (d .table) b (omega arith)) }
@@ -238,7 +236,7 @@ module _ (s : Instrument) (xs old : List Float) where
           → r ≡ record { reply = Mixed gone; ended = ended; state = blockedAs t (t .voices) kept 0 } → MixAs s xs old new r
       unfolding output view mixOf
       mix-done new r o q =
-          rw (q, closing s t _ _ _ (a .others) (t .voices) kept 0)
+          rw (q, retabled s t _ _ _ (a .others) (t .voices) kept 0)
           (record {
             call = accepted-step s _ _ _ e said inside closed;
             nobody = λ z. absurd (z e);

@@ -11,22 +11,22 @@ use Rattle.voice.specs.declared.Voice.{Voice}
 use Rattle.voice.specs.View.{shown, seen}
 use Rattle.voice.specs.Changes.{onSeen}
 
--- a block of n frames: n samples of each copy from p on, and a sum of each side for each frame
+-- a block of n frames, 1,024 at most: n samples of each copy from p on, and a sum of each side for each frame
 pub record Fits (v : Voice) (n p : ℕ) (samples left right : List Float) : Type 0 where
   pub frames : n ≤ 1024
   pub inputs : p + n * length (shown v .copies) ≤ length samples
   pub leftSums : n ≤ length left
   pub rightSums : n ≤ length right
 
--- the sums of one side with those of the voice v added, whose samples stand from p on
-abbrev pub withVoice : (UnisonCopy → Float) → Voice → ℕ → Float → List Float → ℕ → List Float → List Float
-withVoice side v n trem samples p sums = sideVoice side n trem (mixing (drop p samples) sums) (shown v) .sums
+-- the sums of one side with the voice v added, whose samples stand from p on
+abbrev pub addedVoice : (UnisonCopy → Float) → Voice → ℕ → Float → List Float → ℕ → List Float → List Float
+addedVoice side v n trem samples p sums = sideVoice side n trem (mixing (drop p samples) sums) (shown v) .sums
 
 -- r is the voice v after the frames; the sums of both sides at entry and at exit
 pub record AddedAs (v : Voice) (n : ℕ) (trem : Float) (samples : List Float) (p : ℕ) (left₀ right₀ left right : List Float) (r : Voice) : Type 0 where
   pub voice : Fits v n p samples left₀ right₀ → seen r ≡ onSeen (agedVoice n) (seen v)
-  pub leftSums : Fits v n p samples left₀ right₀ → left ≡ withVoice onLeft v n trem samples p left₀
-  pub rightSums : Fits v n p samples left₀ right₀ → right ≡ withVoice onRight v n trem samples p right₀
+  pub leftSums : Fits v n p samples left₀ right₀ → left ≡ addedVoice onLeft v n trem samples p left₀
+  pub rightSums : Fits v n p samples left₀ right₀ → right ≡ addedVoice onRight v n trem samples p right₀
   -- numbers of another size leave all as it is
   pub refused : (Fits v n p samples left₀ right₀ → ⊥) → (r ≡ v) × (left ≡ left₀) × (right ≡ right₀)
 

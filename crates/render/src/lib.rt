@@ -11,7 +11,7 @@ ghost use Rattle.model.specs.Voices.{aged, isEnded};
 ghost use Rattle.model.specs.Mix.{addSide, mixing, interleave, onLeft, onRight};
 ghost use Rattle.voice.specs.View.{shown};
 ghost use Rattle.render.specs.Parts.{row, partCopy, gains, addFour, BothSides};
-ghost use Rattle.render.specs.Mixes.{Fits, AddedAs, withVoice, FitsOut, PutAs};
+ghost use Rattle.render.specs.Mixes.{Fits, AddedAs, addedVoice, FitsOut, PutAs};
 use envelope::EnvGen;
 use stream::UnisonCopy;
 use voice::Voice;
@@ -166,7 +166,7 @@ fn add_parts(
     right: &mut [f32],
 ) -> EnvGen
     requires { ⌜ Fits v n p (now samples) (now left) (now right) ⌝ }
-    ensures { λ r. ⌜ (r ≡ aged n (v .env)) × BothSides (λ side. withVoice side v n trem (now (samples .entry)) p) onLeft onRight (now (left .entry)) (now (right .entry)) (now (left .exit)) (now (right .exit)) ⌝ }
+    ensures { λ r. ⌜ (r ≡ aged n (v .env)) × BothSides (λ side. addedVoice side v n trem (now (samples .entry)) p) onLeft onRight (now (left .entry)) (now (right .entry)) (now (left .exit)) (now (right .exit)) ⌝ }
 {
     let mut e = v.env;
     let mut a: usize = 0;
