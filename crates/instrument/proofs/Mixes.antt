@@ -1,27 +1,38 @@
--- The ways out of Mix.
+-- The ways out of Mix, and its loop over the voices.
 use mathlib.Core.Path.{_≡_, refl, ap, sym, _∙_}
 use mathlib.Core.Bool.{Bool, true, false, not, _||_}
-use mathlib.Core.List.{List, map}
-use Prim.Native.Nat.{ℕ, _*_, _≤_}
+use mathlib.Core.List.{List, [], _∷_, _++_, map}
+use Prim.Native.Nat.{ℕ, _+_, _*_, _≤_, _<_}
 use native.Mathlib.Omega.{arith}
 use borrow.Author.Tests.{le-leb, eq-eqb, ne-eqb, eqb-true, not-false}
-use lib.Dec.{eqb}
+use lib.Dec.{eqb, leb}
 use lib.Ieee.{Float}
-use lib.ListN.{length, replicate}
-use Rattle.lists.specs.Choose.{both, cond-false}
+use lib.ListN.{length, take, drop, getD, set, replicate, length-replicate}
+use lib.Seq.{take-all}
+use Rattle.lists.specs.Choose.{both}
+use Rattle.lists.specs.All.{all-kept}
+use Rattle.lists.specs.Pass.{pass-start, maps-more}
+use Rattle.lists.specs.Prefix.{fold}
+use Rattle.float32.specs.Numbers.{zero as +0}
+use Rattle.stream.specs.declared.UnisonCopy.{UnisonCopy}
 use Rattle.design.specs.declared.InstrumentDesign.{InstrumentDesign}
 use Rattle.model.specs.Types as M
 use Rattle.model.specs.Changes.{blocked}
-use Rattle.model.specs.Formed.{framesFit, blockFits, wellFormed}
-use Rattle.model.specs.Voices.{agedVoice, copiesIn}
-use Rattle.model.specs.Mix.{output, played, remaining, endedHandles, report, mixOf}
-use Rattle.model.specs.Step.{noBlock, blockOpen, blockMissing, handlesSpent, refusal, accepted}
+use Rattle.model.specs.Formed.{blockFits, wellFormed}
+use Rattle.model.specs.Voices.{agedVoice, isEnded, copiesIn}
+use Rattle.model.specs.Mix.{Mixing, mixing, sideVoice, sideMix, interleave, onLeft, onRight, output, played, remaining, endedHandles, report, mixOf}
+use Rattle.model.specs.Step.{noBlock, blockOpen, blockMissing, handlesSpent, refusal}
 use Rattle.model.proofs.Refusals.{Passes, passes}
 use Rattle.voice.specs.declared.Voice.{Voice}
+use Rattle.voice.specs.View.{Seen, shown, seen}
+use Rattle.voice.specs.Changes.{onSeen}
+use Rattle.voice.proofs.Sizes.{pastEnd}
 use Rattle.voices.specs.View.{seenFirst, voicesOf, inRoom}
-use Rattle.render.specs.Mixes.{Sized, MixedAs, MixedTable}
-use Rattle.render.specs.Retains.{RetainedFrom}
-use Rattle.render.specs.declared.Retained.{Retained}
+use Rattle.voices.specs.Changes.{map-seen, room-map}
+use Rattle.voices.proofs.Table.{table, table-size, in-table, read-here, rows-left}
+use Rattle.render.specs.Mixes.{Fits, AddedAs, FitsOut}
+use Rattle.render.proofs.Parts.{voice-more, first-sums}
+use Rattle.render.proofs.Retaining.{Retaining, goesOn, remaining-seen, retain-on, retain-not}
 use Rattle.instrument.specs.View.{view, counted, formed}
 use Rattle.instrument.specs.Calls.{refusalOf}
 use Rattle.instrument.specs.Plans.{blockedAs}
@@ -31,7 +42,6 @@ use Rattle.instrument.specs.declared.MixOutcome.{MixOutcome}
 use Rattle.instrument.specs.declared.MixReply.the-variants.{Mixed}
 use Rattle.instrument.proofs.Formed.{tableOf}
 use Rattle.instrument.proofs.Calls.{counts, counted-of, refusal-in, refused-call, accepted-step}
-use Rattle.instrument.proofs.Controls.{mapped-room, mapped-voices}
 use Rattle.instrument.proofs.Plans.{Rows, frames-most, refused-lent, accepted-lent}
 
 -- an open block is no longer than the longest
@@ -85,6 +95,77 @@ module _ (s : Instrument) (xs out : List Float) where
         unfolding refusalOf refusal blockOpen blockMissing noBlock handlesSpent view
         mix-0 h = rw (well .0, well .1, ne-eqb (s .frames) 0 o, r .all, eq-eqb (length xs) (s .frames * rows) a, eq-eqb (length out) (2 * s .frames) h)
 
+-- ---- the loop over the voices
+
+-- the sums of one side after i voices, with the samples that are left
+abbrev sumsOf : (UnisonCopy → Float) → Instrument → List Float → ℕ → Mixing
+sumsOf side s xs i = fold (sideVoice side (s .frames) (s .trem)) (mixing xs (replicate 1024 +0)) (take i (table (s .«voice_count») (s .voices)))
+
+-- i voices of s are summed, and the samples from p on are not used yet
+pub record Summed (s : Instrument) (xs left right : List Float) (p i : ℕ) : Type 0 where
+  pub unused : p + s .frames * copiesIn (drop i (table (s .«voice_count») (s .voices))) ≡ length xs
+  pub leftSize : length left ≡ 1024
+  pub rightSize : length right ≡ 1024
+  pub onLeft : mixing (drop p xs) left ≡ sumsOf onLeft s xs i
+  pub onRight : mixing (drop p xs) right ≡ sumsOf onRight s xs i
+
+-- t is s with i voices aged, and those of them that have ended dropped and reported
+pub record Aged (s t : Instrument) (ended : List ℕ) (gone kept i : ℕ) : Type 0 where
+  pub others : t ≡ blockedAs s (t .voices) (s .«voice_count») (s .frames)
+  pub table : Retaining (map (onSeen (agedVoice (s .frames))) (seenFirst i (s .voices))) kept gone i (t .voices) ended (s .voices)
+
+-- another table in a state that had another one already
+retabled : (s t : Instrument) (ws : List Voice) (c f : ℕ) → t ≡ blockedAs s ws c f → (vs : List Voice) (k g : ℕ) → blockedAs t vs k g ≡ blockedAs s vs k g
+unfolding blockedAs
+retabled s t ws c f e vs k g = rw e
+
+pub aged-none : (s : Instrument) → Aged s s (replicate 64 0) 0 0 0
+unfolding blockedAs endedHandles
+aged-none s = record { others = refl; table = record { pass = pass-start seen _; report = refl; many = refl; few = omega arith } }
+
+-- v is the voice that is read at i
+module _ (s : Instrument) (i : ℕ) (v : Voice) (len : length (s .voices) ≡ 64) (most : s .«voice_count» ≤ 64) (h : i < s .«voice_count») (read : v ≡ getD (s .voices) i pastEnd) where
+  module _ (xs left right : List Float) (p rows : ℕ) (r : rows ≡ length (shown v .copies)) (d : Summed s xs left right p i) where
+    pub unused-next : p + s .frames * rows + s .frames * copiesIn (drop (i + 1) (table (s .«voice_count») (s .voices))) ≡ length xs
+    unused-next = rows-left (s .«voice_count») (s .voices) v i len (omega arith) read (s .frames) p _ rows r (d .unused)
+
+    pub voice-fits : s .frames ≤ 1024 → Fits v (s .frames) p xs left right
+    voice-fits f =
+        let a : p + s .frames * rows ≤ length xs = omega (arith, unused-next) in
+        record { frames = f; inputs = rw r at a; leftSums = omega (arith, d .leftSize); rightSums = omega (arith, d .rightSize) }
+
+    pub summed-more : (left' right' : List Float) (w : Voice) → Fits v (s .frames) p xs left right → AddedAs v (s .frames) (s .trem) xs p left right left' right' w
+        → length left' ≡ length left → length right' ≡ length right → Summed s xs left' right' (p + s .frames * rows) (i + 1)
+    summed-more left' right' w f a ll lr =
+        let vs = table (s .«voice_count») (s .voices) in
+        let inside = in-table (s .«voice_count») (s .voices) v i len (omega arith) read in
+        let here = read-here (s .«voice_count») (s .voices) v i len (omega arith) read in
+        let zeros = mixing xs (replicate 1024 +0) in
+        record {
+          unused = unused-next;
+          leftSize = ll ∙ d .leftSize;
+          rightSize = lr ∙ d .rightSize;
+          onLeft = voice-more onLeft (s .frames) (s .trem) xs zeros vs p i rows left left' (shown v) inside here r (a .leftSums f) (d .onLeft);
+          onRight = voice-more onRight (s .frames) (s .trem) xs zeros vs p i rows right right' (shown v) inside here r (a .rightSums f) (d .onRight);
+        }
+
+  module _ (t : Instrument) (ended : List ℕ) (gone kept : ℕ) (d : Aged s t ended gone kept i) (w : Voice) (e : seen w ≡ onSeen (agedVoice (s .frames)) (seen v)) where
+    more : map (onSeen (agedVoice (s .frames))) (seenFirst (i + 1) (s .voices)) ≡ map (onSeen (agedVoice (s .frames))) (seenFirst i (s .voices)) ++ (seen w ∷ [])
+    more = maps-more (onSeen (agedVoice (s .frames))) seen (s .voices) i pastEnd (omega arith) ∙ rw (e, read)
+
+    pub aged-on : not (isEnded (shown w)) ≡ true → Aged s (blockedAs t (set (t .voices) kept w) (t .«voice_count») (t .frames)) ended gone (kept + 1) (i + 1)
+    unfolding blockedAs
+    aged-on b =
+        let n : t .«voice_count» ≡ s .«voice_count» = ap (λ (u : Instrument). u .«voice_count») (d .others) in
+        let f : t .frames ≡ s .frames = ap (λ (u : Instrument). u .frames) (d .others) in
+        record {
+          others = rw (n, f) (retabled s t _ _ _ (d .others) (set (t .voices) kept w) (s .«voice_count») (s .frames));
+          table = rw more (retain-on w (d .table) b (omega arith));
+        }
+
+    pub aged-not : not (isEnded (shown w)) ≡ false → Aged s t (set ended gone (w .handle)) (gone + 1) kept (i + 1)
+    aged-not b = record { others = d .others; table = rw more (retain-not w (d .table) b (omega arith)) }
+
 -- ---- the call
 
 module _ (s : Instrument) (xs old : List Float) where
@@ -96,42 +177,68 @@ module _ (s : Instrument) (xs old : List Float) where
     kept : Passes (view s) (M.Call.mix xs old)
     kept = passes (view s) _ (refusal-in s _ (counted-of s _ e) ∙ e)
 
-    pub mix-sized : Sized (s .frames) (copiesIn (voicesOf (tableOf s))) (length xs) (length old)
+    pub mix-formed : formed s ≡ true
+    unfolding formed
+    mix-formed = rw (counted-of s _ e, kept .well)
+
+    lengths : (s .frames * copiesIn (voicesOf (tableOf s)) ≡ length xs) × (2 * s .frames ≡ length old)
     unfolding view
-    mix-sized =
-        let b = either _ _ (kept .lengths) in
-        record { inputs = sym (eqb-true _ _ (not-false _ (b .0))); outputs = sym (eqb-true _ _ (not-false _ (b .1))) }
+    lengths = let b = either _ _ (kept .lengths) in (sym (eqb-true _ _ (not-false _ (b .0))), sym (eqb-true _ _ (not-false _ (b .1))))
 
-    module _ (ws : List Voice) (new : List Float) (g : MixedAs (s .frames) (s .trem) xs (tableOf s) (seenFirst (s .«voice_count») ws) new) (k : Retained) (h : RetainedFrom ws (s .«voice_count») k) where
+    zeros : length (replicate 1024 +0) ≡ 1024
+    zeros = length-replicate 1024 +0
+
+    pub summed-none : Summed s xs (replicate 1024 +0) (replicate 1024 +0) 0 0
+    summed-none = record { unused = omega (arith, lengths .0); leftSize = zeros; rightSize = zeros; onLeft = refl; onRight = refl }
+
+    -- every voice is done
+    module _ (t : Instrument) (left right : List Float) (ended : List ℕ) (gone kept p i : ℕ) (n : i ≡ s .«voice_count») (len : length (s .voices) ≡ 64) (few : s .frames ≤ 1024) (u : Summed s xs left right p i) (a : Aged s t ended gone kept i) where
+      abbrev done : List Seen
+      done = map (onSeen (agedVoice (s .frames))) (tableOf s)
+
+      retained : Retaining done kept gone (s .«voice_count») (t .voices) ended (s .voices)
+      retained = rw n at (a .table)
+
       -- the table after the block's frames
-      aged : voicesOf (seenFirst (s .«voice_count») ws) ≡ played (view s)
+      aged : voicesOf done ≡ played (view s)
       unfolding played view
-      aged = mapped-voices s (agedVoice (s .frames)) ws (g .voices)
+      aged = map-seen (agedVoice (s .frames)) (tableOf s)
 
-      room : inRoom (seenFirst (k .count) (k .voices)) ≡ true
-      room = h .room (mapped-room s (agedVoice (s .frames)) ws (g .voices) (counted-of s _ e))
-
-      inside : counted (blockedAs s (k .voices) (k .count) 0) ≡ true
+      inside : counted (blockedAs s (t .voices) kept 0) ≡ true
       unfolding counted blockedAs
       inside =
-          let n = counts s (counted-of s _ e) in
-          let m = h .most in
-          rw (le-leb (k .count) 64 (omega arith), le-leb (s .«held_count») 256 (n .held256)) room
+          let k = counts s (counted-of s _ e) in
+          let m = retained .pass .order in
+          let room : inRoom (seenFirst kept (t .voices)) ≡ true =
+          ap inRoom (retained .pass .front) ∙ all-kept (λ (x : Seen). leb (x .count) 8) goesOn done (room-map (agedVoice (s .frames)) (tableOf s) ∙ k .room) in
+          rw (le-leb kept 64 (omega arith), le-leb (s .«held_count») 256 (k .held256)) room
 
-      closed : view (blockedAs s (k .voices) (k .count) 0) ≡ mixOf (view s) xs .model
+      closed : view (blockedAs s (t .voices) kept 0) ≡ mixOf (view s) xs .model
       unfolding view blockedAs blocked mixOf
-      closed = ap (λ (vs : List M.Voice). blocked (view s) vs 0) (h .voices ∙ ap remaining aged)
+      closed = ap (λ (vs : List M.Voice). blocked (view s) vs 0) (ap voicesOf (retained .pass .front) ∙ remaining-seen done ∙ ap remaining aged)
 
-      said : M.Reply.mixed (k .«ended_count») (k .ended) ≡ mixOf (view s) xs .reply
+      said : M.Reply.mixed gone ended ≡ mixOf (view s) xs .reply
       unfolding mixOf report
-      said = rw (h .ended, h .endedCount, aged)
+      said = rw (retained .report, retained .many, aged)
 
-      pub mix-done : (r : MixOutcome) → r ≡ record { reply = Mixed (k .«ended_count»); ended = k .ended; state = blockedAs s (k .voices) (k .count) 0 } → MixAs s xs old new r
+      all-voices : take i (voicesOf (tableOf s)) ≡ voicesOf (tableOf s)
+      all-voices = take-all i (voicesOf (tableOf s)) (omega (arith, table-size (s .«voice_count») (s .voices) len))
+
+      -- the first sums are the whole side
+      side-is : (side : UnisonCopy → Float) (sums : List Float) → mixing (drop p xs) sums ≡ sumsOf side s xs i
+          → take (s .frames) sums ≡ sideMix side (s .frames) (s .trem) xs (voicesOf (tableOf s))
+      side-is side sums g = first-sums side (s .frames) 1024 (s .trem) xs sums (voicesOf (tableOf s)) few (rw all-voices at (ap (λ (z : Mixing). z .sums) g))
+
+      pub out-fits : FitsOut (s .frames) left right old
+      out-fits = record { leftSums = omega (arith, u .leftSize); rightSums = omega (arith, u .rightSize); places = lengths .1 }
+
+      pub mix-done : (new : List Float) (r : MixOutcome) → new ≡ interleave (take (s .frames) left) (take (s .frames) right)
+          → r ≡ record { reply = Mixed gone; ended = ended; state = blockedAs t (t .voices) kept 0 } → MixAs s xs old new r
       unfolding output view mixOf
-      mix-done r q =
-          rw q
+      mix-done new r o q =
+          rw (q, retabled s t _ _ _ (a .others) (t .voices) kept 0)
           (record {
             call = accepted-step s _ _ _ e said inside closed;
             nobody = λ z. absurd (z e);
-            lent = g .output ∙ accepted-lent s (M.Call.mix xs old) e;
+            lent = o ∙ rw (side-is onLeft left (u .onLeft), side-is onRight right (u .onRight)) (accepted-lent s (M.Call.mix xs old) e);
           })

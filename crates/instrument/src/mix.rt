@@ -43,23 +43,44 @@ impl Instrument {
     }
 
     // Sums the samples of every copy into both sides, drops the voices that have ended and closes the block.
-    pub fn mix(self, samples: &[f32], out: &mut [f32]) -> MixOutcome
+    // The table is changed where it stands: a voice that goes on moves up as soon as it has been summed.
+    pub fn mix(mut self, samples: &[f32], out: &mut [f32]) -> MixOutcome
         ensures { λ r. ⌜ MixAs self (now (samples .entry)) (now (out .entry)) (now (out .exit)) r ⌝ }
     {
         let number = self.mix_refusal(samples.len(), out.len());
         if number != 0 {
             return unmixed(self, number);
         }
-        let vs = self.voices;
         let n = self.voice_count;
-        let ws = render::mix_all(vs, n, self.frames, self.trem, samples, out);
-        let kept = render::retain(ws, n);
-        let table = kept.voices;
-        let ended = kept.ended;
+        let frames = self.frames;
+        let trem = self.trem;
+        let mut left = [0.0f32; 1024];
+        let mut right = [0.0f32; 1024];
+        let mut ended = [0u64; 64];
+        let mut gone: usize = 0;
+        let mut kept: usize = 0;
+        let mut p: usize = 0;
+        let mut i: usize = 0;
+        while i < n {
+            let v = self.voices[i];
+            let w = render::add_voice(v, frames, trem, samples, p, &mut left, &mut right);
+            p += frames * v.copies_shown();
+            if render::goes_on(w) {
+                self.voices[kept] = w;
+                kept += 1;
+            } else {
+                ended[gone] = w.handle;
+                gone += 1;
+            }
+            i += 1;
+        }
+        render::put(&left, &right, frames, out);
+        self.voice_count = kept;
+        self.frames = 0;
         MixOutcome {
-            reply: MixReply::Mixed(kept.ended_count),
+            reply: MixReply::Mixed(gone),
             ended,
-            state: self.blocked(table, kept.count, 0),
+            state: self,
         }
     }
 }

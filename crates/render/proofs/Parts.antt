@@ -1,28 +1,22 @@
--- A part of the mix is the mix of the part, with the voices aged.
+-- A voice goes through a block in parts: the parts make the whole. And the first frames of a mix that has places for more.
 use mathlib.Core.Path.{_≡_, refl, ap, sym, _∙_}
-use mathlib.Core.List.{List, [], _∷_, map}
-use Prim.Native.Nat.{ℕ, zero, suc, _+_, _*_, _≤_}
-use native.Mathlib.Nat.{zero-add, suc-add, mul-zero, mul-suc}
+use mathlib.Core.List.{List, [], _∷_, _++_, append-assoc}
+use Prim.Native.Nat.{ℕ, zero, suc, _+_, _-_, _*_, _≤_, _<_}
+use native.Mathlib.Nat.{mul-zero, mul-suc}
 use native.Mathlib.Omega.{arith}
 use lib.Ieee.{Float, binary32, add, mul}
-use lib.ListN.{length, take, drop, replicate, length-replicate}
-use lib.Seq.{take-take, take-all, drop-drop}
-use Rattle.lists.specs.Prefix.{fold, fold-hom, fold-see}
-use Rattle.lists.specs.Parts.{part-take, part-replicate}
+use lib.ListN.{length, take, drop, replicate, getD, length-append, length-take, take-append-drop}
+use lib.Seq.{take-take, take-all, take-add, drop-drop, drop-append-seam}
+use Rattle.lists.specs.Prefix.{fold, fold-more, fold-see}
+use Rattle.lists.specs.Parts.{part-length, part-size, part-front, part-take, part-replicate, rest-on}
 use Rattle.float32.specs.Numbers.{zero as +0}
 use Rattle.envelope.specs.declared.EnvGen.{EnvGen}
 use Rattle.envelope.specs.Ticks.{ticked}
 use Rattle.stream.specs.declared.UnisonCopy.{UnisonCopy}
 use Rattle.model.specs.Types as model
-use Rattle.model.specs.Voices.{withVoice, aged, agedVoice, copiesIn}
+use Rattle.model.specs.Voices.{aged}
 use Rattle.model.specs.Mix.{levels, addSide, Mixing, mixing, sideCopy, sideVoice, sideMix}
-use Rattle.voice.specs.View.{Seen}
-use Rattle.voices.specs.View.{voicesOf}
-use Rattle.voice.specs.Changes.{onSeen}
-use Rattle.voices.specs.Changes.{map-seen}
-use Rattle.model.proofs.Laws.{length-add}
-use Rattle.levels.proofs.Frames.{aged-add}
-use Rattle.render.specs.Parts.{partCopy, partVoice}
+use Rattle.render.specs.Parts.{partCopy}
 
 -- ---- one side of one copy
 
@@ -50,6 +44,14 @@ module _ (g : Float) where
   take-side (suc m) (x ∷ xs) (e ∷ es) [] = refl
   take-side (suc m) (x ∷ xs) (e ∷ es) (c ∷ cs) = ap (_∷_ (add binary32 c (mul binary32 (mul binary32 x e) g))) (take-side m xs es cs)
 
+  -- nothing is added past the samples
+  side-past : (n : ℕ) (xs es cs : List Float) → drop n (addSide g (take n xs) es cs) ≡ drop n cs
+  side-past zero xs es cs = refl
+  side-past (suc n) [] es cs = refl
+  side-past (suc n) (x ∷ xs) [] cs = refl
+  side-past (suc n) (x ∷ xs) (e ∷ es) [] = refl
+  side-past (suc n) (x ∷ xs) (e ∷ es) (c ∷ cs) = side-past n xs es cs
+
 -- ---- the envelope in parts
 
 module _ (gain trem : Float) where
@@ -71,91 +73,127 @@ module _ (gain trem : Float) where
 abbrev cut : ℕ → ℕ → Mixing → Mixing
 cut a m z = mixing (z .samples) (take m (drop a (z .sums)))
 
--- `sideMix` of a part, from m zeros
-partMix : (UnisonCopy → Float) → ℕ → ℕ → ℕ → Float → List Float → List model.Voice → List Float
-partMix side n a m trem samples vs = fold (partVoice side n a m trem) (mixing samples (replicate m +0)) vs .sums
-
 module _ (side : UnisonCopy → Float) (n a m : ℕ) (h : a + m ≤ n) where
   copy-part : (es : List Float) (z : Mixing) (c : UnisonCopy) → cut a m (sideCopy side n es z c) ≡ partCopy side n a m (take m (drop a es)) (cut a m z) c
   unfolding sideCopy partCopy
   copy-part es z c = rw (drop-side (side c) a, take-side (side c) m, part-take a m n (z .samples) h)
 
-  voice-part : (trem : Float) (z : Mixing) (v : model.Voice) → cut a m (sideVoice side n trem z v) ≡ partVoice side n a m trem (cut a m z) (agedVoice a v)
-  unfolding sideVoice partVoice agedVoice withVoice
+  voice-part : (trem : Float) (z : Mixing) (v : model.Voice)
+      → take m (drop a (sideVoice side n trem z v .sums)) ≡ fold (partCopy side n a m (levels (v .gain) trem m (aged a (v .env)))) (cut a m z) (v .copies) .sums
+  unfolding sideVoice
   voice-part trem z v =
       let es = levels (v .gain) trem n (v .env) in
-      fold-see (cut a m) (sideCopy side n es) (partCopy side n a m (take m (drop a es))) (copy-part es) z (v .copies)
+      ap (λ (y : Mixing). y .sums) (fold-see (cut a m) (sideCopy side n es) (partCopy side n a m (take m (drop a es))) (copy-part es) z (v .copies))
       ∙ rw (levels-part (v .gain) trem a m n (v .env) h)
 
-  mix-part : (trem : Float) (xs : List Float) (vs : List model.Voice)
-      → take m (drop a (sideMix side n trem xs vs)) ≡ partMix side n a m trem xs (map (agedVoice a) vs)
-  unfolding sideMix partMix
-  mix-part trem xs vs =
-      ap (λ (z : Mixing). z .sums) (fold-hom (cut a m) (agedVoice a) (sideVoice side n trem) (partVoice side n a m trem) (voice-part trem) (mixing xs (replicate n +0)) vs)
-      ∙ rw (part-replicate a m n +0 h)
+-- ---- one side of one voice
 
--- ---- a part of m frames in places for more
+-- ys stands for the k elements from `at` on, and those behind are as they were
+part-rest : (at k : ℕ) (xs ys : List Float) → at + k ≤ length xs → length ys ≡ k → drop (at + k) (take at xs ++ (ys ++ drop k (drop at xs))) ≡ drop (at + k) xs
+part-rest at k xs ys h e =
+    let front = take at xs ++ ys in
+    let l : length front ≡ at + k = simp (length-append, length-take) (omega arith) in
+    let seam : drop (at + k) (front ++ drop k (drop at xs)) ≡ drop k (drop at xs) = rw l at (drop-append-seam front (drop k (drop at xs))) in
+    rw (← append-assoc (take at xs) ys (drop k (drop at xs))) (seam ∙ drop-drop k at xs)
 
-module _ (side : UnisonCopy → Float) (n a m : ℕ) where
+module _ (side : UnisonCopy → Float) (n : ℕ) where
+  copies-past : (es : List Float) (z : Mixing) (cs : List UnisonCopy) → drop n (fold (sideCopy side n es) z cs .sums) ≡ drop n (z .sums)
+  unfolding sideCopy
+  copies-past es z [] = refl
+  copies-past es z (c ∷ cs) = copies-past es (sideCopy side n es z c) cs ∙ side-past (side c) n (z .samples) es (z .sums)
+
+  voice-past : (trem : Float) (z : Mixing) (v : model.Voice) → drop n (sideVoice side n trem z v .sums) ≡ drop n (z .sums)
+  unfolding sideVoice
+  voice-past trem z v = copies-past (levels (v .gain) trem n (v .env)) z (v .copies)
+
+-- the first a frames of the voice v are added, and the other sums are as they were
+pub record Added (side : UnisonCopy → Float) (n : ℕ) (trem : Float) (xs : List Float) (v : model.Voice) (old : List Float) (a : ℕ) (now : List Float) : Type 0 where
+  pub front : take a now ≡ take a (sideVoice side n trem (mixing xs old) v .sums)
+  pub back : drop a now ≡ drop a old
+  pub size : length now ≡ length old
+
+module _ (side : UnisonCopy → Float) (n : ℕ) (trem : Float) (xs : List Float) (v : model.Voice) (old : List Float) where
+  pub added-none : Added side n trem xs v old 0 old
+  added-none = record { front = refl; back = refl; size = refl }
+
+  -- there are places for a part
+  pub added-room : (a m : ℕ) (now : List Float) → a + m ≤ n → n ≤ length old → Added side n trem xs v old a now → m ≤ length (take (a + m - a) (drop a now))
+  added-room a m now h fits d =
+      let k : a + m - a ≡ m = omega arith in
+      let room : a + m ≤ length now = let g = d .size in omega arith in
+      let part = part-size a m now room in
+      rw k (omega arith)
+
+  pub added-more : (a m : ℕ) (es now new : List Float) → a + m ≤ n → n ≤ length old → es ≡ levels (v .gain) trem m (aged a (v .env))
+      → new ≡ fold (partCopy side n a m es) (mixing xs (take (a + m - a) (drop a now))) (v .copies) .sums → length new ≡ length (take (a + m - a) (drop a now))
+      → Added side n trem xs v old a now → Added side n trem xs v old (a + m) (take a now ++ (new ++ drop (a + m - a) (drop a now)))
+  added-more a m es now new h fits l e size d =
+      let k : a + m - a ≡ m = omega arith in
+      let room : a + m ≤ length now = let g = d .size in omega arith in
+      let part : length (take m (drop a now)) ≡ m = part-size a m now room in
+      let many : length new ≡ m = rw k at size ∙ part in
+      let whole = sideVoice side n trem (mixing xs old) v .sums in
+      let here : new ≡ take m (drop a whole) = rw (k, l, d .back) at e ∙ sym (voice-part side n a m h trem (mixing xs old) v) in
+      record {
+        front = rw (k, part-front a m now new room many, d .front, here) (sym (take-add a m whole));
+        back = rw k (part-rest a m now new room many ∙ rest-on a (a + m) now old (omega arith) (d .back));
+        size = rw k (part-length a m now new room many ∙ d .size);
+      }
+
+  pub added-all : (a : ℕ) (now : List Float) → a ≡ n → Added side n trem xs v old a now → now ≡ sideVoice side n trem (mixing xs old) v .sums
+  added-all a now e d =
+      let whole = sideVoice side n trem (mixing xs old) v .sums in
+      let f : take n now ≡ take n whole = rw e at (d .front) in
+      let b : drop n now ≡ drop n whole = rw e at (d .back) ∙ sym (voice-past side n trem (mixing xs old) v) in
+      sym (take-append-drop n now) ∙ rw (f, b) (take-append-drop n whole)
+
+-- ---- the voices of a table
+
+module _ (side : UnisonCopy → Float) (n : ℕ) where
+  -- the first n sums
   abbrev front : Mixing → Mixing
-  front z = mixing (z .samples) (take m (z .sums))
+  front z = mixing (z .samples) (take n (z .sums))
 
-  front-copy : (es : List Float) → length es ≡ m → (z : Mixing) (c : UnisonCopy) → front (partCopy side n a m es z c) ≡ partCopy side n a m es (front z) c
-  unfolding partCopy
+  front-copy : (es : List Float) → length es ≡ n → (z : Mixing) (c : UnisonCopy) → front (sideCopy side n es z c) ≡ sideCopy side n es (front z) c
+  unfolding sideCopy
   front-copy es h z c =
-      let l : length es ≤ m = omega arith in
-      rw (take-side (side c) m, take-take m m (drop a (z .samples)) (omega arith), take-all m es l)
+      let l : length es ≤ n = omega arith in
+      rw (take-side (side c) n, take-take n n (z .samples) (omega arith), take-all n es l)
 
-  front-voice : (trem : Float) (z : Mixing) (v : model.Voice) → front (partVoice side n a m trem z v) ≡ partVoice side n a m trem (front z) v
-  unfolding partVoice
+  front-voice : (trem : Float) (z : Mixing) (v : model.Voice) → front (sideVoice side n trem z v) ≡ sideVoice side n trem (front z) v
+  unfolding sideVoice
   front-voice trem z v =
-      let es = levels (v .gain) trem m (v .env) in
-      fold-see front (partCopy side n a m es) (partCopy side n a m es) (front-copy es (length-levels (v .gain) trem m (v .env))) z (v .copies)
+      let es = levels (v .gain) trem n (v .env) in
+      fold-see front (sideCopy side n es) (sideCopy side n es) (front-copy es (length-levels (v .gain) trem n (v .env))) z (v .copies)
 
-  front-mix : (trem : Float) (z : Mixing) (vs : List model.Voice)
-      → take m (fold (partVoice side n a m trem) z vs .sums) ≡ fold (partVoice side n a m trem) (front z) vs .sums
-  front-mix trem z vs = ap (λ (y : Mixing). y .sums) (fold-see front (partVoice side n a m trem) (partVoice side n a m trem) (front-voice trem) z vs)
-
-  -- 64 sums from zeros: the first m are that part of the whole side
-  pub block-is : (trem : Float) (xs o : List Float) (ws vs : List model.Voice) → a + m ≤ n → m ≤ 64 → ws ≡ map (agedVoice a) vs
-      → o ≡ fold (partVoice side n a m trem) (mixing xs (replicate 64 +0)) ws .sums
-      → take m o ≡ take m (drop a (sideMix side n trem xs vs))
-  unfolding partMix
-  block-is trem xs o ws vs h g e p =
-      let zeros : take m (replicate 64 +0) ≡ replicate m +0 = part-replicate zero m 64 +0 (omega arith) in
-      rw (p, front-mix trem (mixing xs (replicate 64 +0)) ws, zeros, e) (sym (mix-part side n a m h trem xs vs))
+  -- k sums from zeros: the first n are the whole side
+  pub first-sums : (k : ℕ) (trem : Float) (xs o : List Float) (vs : List model.Voice) → n ≤ k
+      → o ≡ fold (sideVoice side n trem) (mixing xs (replicate k +0)) vs .sums → take n o ≡ sideMix side n trem xs vs
+  unfolding sideMix
+  first-sums k trem xs o vs h e =
+      let zeros : take n (replicate k +0) ≡ replicate n +0 = part-replicate zero n k +0 (omega arith) in
+      let seen = fold-see front (sideVoice side n trem) (sideVoice side n trem) (front-voice trem) (mixing xs (replicate k +0)) vs in
+      rw e (ap (λ (z : Mixing). z .sums) seen ∙ rw zeros)
 
   -- what a voice uses up
-  left-copies : (es : List Float) (z : Mixing) (cs : List UnisonCopy) → fold (partCopy side n a m es) z cs .samples ≡ drop (n * length cs) (z .samples)
-  unfolding partCopy
+  left-copies : (es : List Float) (z : Mixing) (cs : List UnisonCopy) → fold (sideCopy side n es) z cs .samples ≡ drop (n * length cs) (z .samples)
+  unfolding sideCopy
   left-copies es z [] = rw mul-zero
   left-copies es z (c ∷ cs) =
       let e : n + n * length cs ≡ n * suc (length cs) = rw mul-suc (omega arith) in
-      left-copies es (partCopy side n a m es z c) cs ∙ drop-drop (n * length cs) n (z .samples) ∙ rw e
+      left-copies es (sideCopy side n es z c) cs ∙ drop-drop (n * length cs) n (z .samples) ∙ rw e
 
-  pub left-voice : (trem : Float) (z : Mixing) (v : model.Voice) → partVoice side n a m trem z v .samples ≡ drop (n * length (v .copies)) (z .samples)
-  unfolding partVoice
-  left-voice trem z v = left-copies (levels (v .gain) trem m (v .env)) z (v .copies)
+  left-voice : (trem : Float) (z : Mixing) (v : model.Voice) → sideVoice side n trem z v .samples ≡ drop (n * length (v .copies)) (z .samples)
+  unfolding sideVoice
+  left-voice trem z v = left-copies (levels (v .gain) trem n (v .env)) z (v .copies)
 
--- ---- a table aged in parts
-
-abbrev later : ℕ → List Seen → List Seen
-later a l = map (onSeen (agedVoice a)) l
-
-pub later-none : (l : List Seen) → l ≡ later 0 l
-unfolding onSeen agedVoice withVoice aged
-later-none [] = refl
-later-none (x ∷ l) = ap (_∷_ x) (later-none l)
-
-pub later-twice : (a m : ℕ) (l : List Seen) → later m (later a l) ≡ later (a + m) l
-unfolding onSeen agedVoice withVoice
-later-twice a m [] = refl
-later-twice a m (x ∷ l) = rw (aged-add a m (x .voice .env), later-twice a m l)
-
-aged-copies : (a : ℕ) (vs : List model.Voice) → copiesIn (map (agedVoice a) vs) ≡ copiesIn vs
-unfolding agedVoice withVoice
-aged-copies a [] = refl
-aged-copies a (v ∷ vs) = rw (aged-copies a vs)
-
-pub later-copies : (a : ℕ) (ws l : List Seen) → ws ≡ later a l → copiesIn (voicesOf ws) ≡ copiesIn (voicesOf l)
-later-copies a ws l e = rw (e, map-seen (agedVoice a) l) (aged-copies a (voicesOf l))
+  -- v is the voice at i, with k copies
+  pub voice-more : (trem : Float) (xs : List Float) (z : Mixing) (vs : List model.Voice) (p i k : ℕ) (o w : List Float) (v : model.Voice)
+      → i < length vs → getD vs i model.noVoice ≡ v → k ≡ length (v .copies) → w ≡ sideVoice side n trem (mixing (drop p xs) o) v .sums
+      → mixing (drop p xs) o ≡ fold (sideVoice side n trem) z (take i vs)
+      → mixing (drop (p + n * k) xs) w ≡ fold (sideVoice side n trem) z (take (i + 1) vs)
+  voice-more trem xs z vs p i k o w v h g r e s =
+      let left : sideVoice side n trem (mixing (drop p xs) o) v .samples ≡ drop (p + n * k) xs =
+      rw (← r) at (left-voice trem (mixing (drop p xs) o) v ∙ drop-drop (n * length (v .copies)) p xs) in
+      let turn : mixing (drop (p + n * k) xs) w ≡ sideVoice side n trem (mixing (drop p xs) o) v = rw (← left, e) in
+      turn ∙ rw (s, fold-more (sideVoice side n trem) z vs i model.noVoice h, g)

@@ -1,10 +1,10 @@
 -- The pass that drops ended voices and reports them, at one turn.
-use mathlib.Core.Path.{_≡_, refl, ap, sym}
+use mathlib.Core.Path.{_≡_, refl, sym}
 use mathlib.Core.Bool.{Bool, true, false, not}
 use mathlib.Core.List.{List, [], _∷_, _++_, map, map-append, append-assoc, append-nil}
 use Prim.Native.Nat.{ℕ, suc, _+_, _-_, _≤_, _<_}
 use native.Mathlib.Omega.{arith}
-use lib.ListN.{length, set, length-append}
+use lib.ListN.{length, replicate, set, length-append}
 use lib.Seq.{set-at}
 use Rattle.lists.specs.Pass.{Pass, pass-keep, pass-skip}
 use Rattle.lists.specs.Places.{kept, kept-append, map-kept}
@@ -12,10 +12,12 @@ use Rattle.model.specs.Types as model
 use Rattle.model.specs.Voices.{isEnded}
 use Rattle.model.specs.Mix.{remaining, endedHandles}
 use Rattle.voice.specs.declared.Voice.{Voice}
-use Rattle.voice.specs.View.{shown}
-use Rattle.voice.specs.View.{Seen, seen}
+use Rattle.voice.specs.View.{shown, Seen, seen}
 use Rattle.voices.specs.View.{voicesOf}
-use Rattle.render.specs.Retains.{padded}
+
+-- 64 places, "with a count and zeros behind"
+abbrev pub padded : List ℕ → List ℕ
+padded l = l ++ replicate (64 - length l) 0
 
 pub goesOn : Seen → Bool
 goesOn x = not (isEnded (x .voice))

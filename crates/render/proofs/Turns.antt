@@ -7,15 +7,13 @@ use native.Mathlib.Numerals.{add-one}
 use native.Mathlib.Omega.{arith}
 use lib.Ieee.{Float, nan, binary32, add, mul}
 use lib.ListN.{length, take, drop, getD, set, length-set, length-take, length-drop}
-use lib.Seq.{getD-drop, getD-take, set-getD, drop-drop, take-add, take-suc-set}
+use lib.Seq.{getD-drop, getD-take, set-getD, drop-drop, take-suc-set}
 use Rattle.lists.specs.Prefix.{take-more, fold, fold-more}
 use Rattle.stream.specs.declared.UnisonCopy.{UnisonCopy}
-use Rattle.model.specs.Types as model
-use Rattle.model.specs.Mix.{levels, addSide, Mixing, mixing, interleave, onLeft, onRight}
+use Rattle.model.specs.Mix.{addSide, Mixing, mixing, interleave}
 use Rattle.voice.proofs.Sizes.{noCopy}
-use Rattle.render.specs.Parts.{row, partCopy, partVoice, Gains, addFour, BothSides}
+use Rattle.render.specs.Parts.{row, partCopy, Gains, addFour}
 use Rattle.model.proofs.Laws.{length-add}
-use Rattle.render.proofs.Parts.{left-voice}
 
 -- ---- one frame
 
@@ -140,27 +138,6 @@ module _ (side : UnisonCopy → Float) (n a m : ℕ) (xs es : List Float) (z : M
       (copy-one (q + n + n + n) (j + 1 + 1 + 1) _ w (omega arith) e'
       (copy-one (q + n + n) (j + 1 + 1) _ _ (omega arith) refl (copy-one (q + n) (j + 1) _ _ (omega arith) refl (copy-one q j o _ (omega arith) refl s))))
 
--- ---- the voices of a table
-
--- the copies by the levels es are the voice by its own
-pub voice-sides : (n a m : ℕ) (trem : Float) (xs es : List Float) (v : model.Voice) (left₀ right₀ left right : List Float) → es ≡ levels (v .gain) trem m (v .env)
-    → BothSides (λ (side : UnisonCopy → Float) (sums : List Float). fold (partCopy side n a m es) (mixing xs sums) (v .copies) .sums) onLeft onRight left₀ right₀ left right
-    → BothSides (λ (side : UnisonCopy → Float) (sums : List Float). partVoice side n a m trem (mixing xs sums) v .sums) onLeft onRight left₀ right₀ left right
-unfolding partVoice
-voice-sides n a m trem xs es v left₀ right₀ left right e s = rw e at s
-
-module _ (side : UnisonCopy → Float) (n a m : ℕ) (trem : Float) (xs : List Float) (z : Mixing) (vs : List model.Voice) where
-  -- v is the voice at i, with k copies
-  pub voice-more : (p i k : ℕ) (o w : List Float) (v : model.Voice) → i < length vs → getD vs i model.noVoice ≡ v → k ≡ length (v .copies)
-      → w ≡ partVoice side n a m trem (mixing (drop p xs) o) v .sums
-      → mixing (drop p xs) o ≡ fold (partVoice side n a m trem) z (take i vs)
-      → mixing (drop (p + n * k) xs) w ≡ fold (partVoice side n a m trem) z (take (i + 1) vs)
-  voice-more p i k o w v h g r e s =
-      let left : partVoice side n a m trem (mixing (drop p xs) o) v .samples ≡ drop (p + n * k) xs =
-      rw (← r) at (left-voice side n a m trem (mixing (drop p xs) o) v ∙ drop-drop (n * length (v .copies)) p xs) in
-      let turn : mixing (drop (p + n * k) xs) w ≡ partVoice side n a m trem (mixing (drop p xs) o) v = rw (← left, e) in
-      turn ∙ rw (s, fold-more (partVoice side n a m trem) z vs i model.noVoice h, g)
-
 -- ---- the output
 
 inter-append : (ls rs ks qs : List Float) → length ls ≡ length rs → interleave (ls ++ ks) (rs ++ qs) ≡ interleave ls rs ++ interleave ks qs
@@ -182,20 +159,10 @@ two-more out k x y h =
     let m : k < length out = omega arith in
     rw (e, take-suc-set (set out k x) (k + 1) y l, add-one k, take-suc-set out k x m, append-assoc)
 
-pub put-more : (out ls rs base : List Float) (k p f : ℕ) → p ≡ k + (f + f) → p + 1 < length out → f < length ls → f < length rs
-    → take (k + (f + f)) out ≡ base ++ interleave (take f ls) (take f rs)
-    → take (k + (f + 1 + (f + 1))) (set (set out p (getD ls f nan)) (p + 1) (getD rs f nan)) ≡ base ++ interleave (take (f + 1) ls) (take (f + 1) rs)
-put-more out ls rs base k p f e h hl hr s =
-    let k2 : k + (f + 1 + (f + 1)) ≡ p + 2 = omega arith in
+pub put-more : (out ls rs : List Float) (p f : ℕ) → p ≡ f + f → p + 1 < length out → f < length ls → f < length rs
+    → take (f + f) out ≡ interleave (take f ls) (take f rs)
+    → take (f + 1 + (f + 1)) (set (set out p (getD ls f nan)) (p + 1) (getD rs f nan)) ≡ interleave (take (f + 1) ls) (take (f + 1) rs)
+put-more out ls rs p f e h hl hr s =
+    let two : f + 1 + (f + 1) ≡ p + 2 = omega arith in
     let t = rw (← e) at s in
-    rw (k2, two-more out p (getD ls f nan) (getD rs f nan) h, inter-more ls rs f hl hr, t, append-assoc)
-
--- a part more of the whole sides ls and rs
-pub part-more : (out new left right ls rs : List Float) (a m : ℕ) → length ls ≡ length rs
-    → take (a + a) out ≡ interleave (take a ls) (take a rs)
-    → take m left ≡ take m (drop a ls) → take m right ≡ take m (drop a rs)
-    → take (a + a + (m + m)) new ≡ take (a + a) out ++ interleave (take m left) (take m right)
-    → take (a + m + (a + m)) new ≡ interleave (take (a + m) ls) (take (a + m) rs)
-part-more out new left right ls rs a m h s l r p =
-    let k : a + m + (a + m) ≡ a + a + (m + m) = omega arith in
-    rw (k, p, s, l, r, take-add a m ls, take-add a m rs) (sym (inter-append (take a ls) (take a rs) _ _ (simp length-take (omega arith))))
+    rw (two, two-more out p (getD ls f nan) (getD rs f nan) h, inter-more ls rs f hl hr, t)

@@ -1,29 +1,42 @@
--- What the mix of a table promises (document 01, "Copies, Plan and Mix": the output of a block, and the voices after its frames).
+-- What a voice adds to the mix, and what is written of the sums (document 01, "Copies, Plan and Mix": `render_block` in its order).
 use mathlib.Core.Path.{_≡_}
-use mathlib.Core.List.{List, map}
-use Prim.Native.Nat.{ℕ, _*_}
+use mathlib.Core.List.{List}
+use Prim.Native.Nat.{ℕ, _+_, _*_, _≤_}
 use lib.Ieee.{Float}
-use lib.ListN.{length}
-use Rattle.model.specs.Voices.{agedVoice, copiesIn}
-use Rattle.model.specs.Mix.{sideMix, interleave, onLeft, onRight}
+use lib.ListN.{length, take, drop}
+use Rattle.stream.specs.declared.UnisonCopy.{UnisonCopy}
+use Rattle.model.specs.Voices.{agedVoice}
+use Rattle.model.specs.Mix.{mixing, sideVoice, interleave, onLeft, onRight}
 use Rattle.voice.specs.declared.Voice.{Voice}
-use Rattle.voice.specs.View.{Seen}
-use Rattle.voices.specs.View.{seenFirst, voicesOf}
+use Rattle.voice.specs.View.{shown, seen}
 use Rattle.voice.specs.Changes.{onSeen}
 
--- the table before and after, and the lent output at exit
-pub record MixedAs (frames : ℕ) (trem : Float) (samples : List Float) (before after : List Seen) (out : List Float) : Type 0 where
-  pub voices : after ≡ map (onSeen (agedVoice frames)) before
-  pub output : out ≡ interleave (sideMix onLeft frames trem samples (voicesOf before)) (sideMix onRight frames trem samples (voicesOf before))
+-- a block of n frames, 1,024 at most: n samples of each copy from p on, and a sum of each side for each frame
+pub record Fits (v : Voice) (n p : ℕ) (samples left right : List Float) : Type 0 where
+  pub frames : n ≤ 1024
+  pub inputs : p + n * length (shown v .copies) ≤ length samples
+  pub leftSums : n ≤ length left
+  pub rightSums : n ≤ length right
 
--- `frames` samples of each copy, and two places of the output for each frame
-pub record Sized (frames copies samples places : ℕ) : Type 0 where
-  pub inputs : frames * copies ≡ samples
-  pub outputs : 2 * frames ≡ places
+-- the sums of one side with the voice v added, whose samples stand from p on
+abbrev pub addedVoice : (UnisonCopy → Float) → Voice → ℕ → Float → List Float → ℕ → List Float → List Float
+addedVoice side v n trem samples p sums = sideVoice side n trem (mixing (drop p samples) sums) (shown v) .sums
 
--- r is the table vs after the mix of its first n voices; `old` and `new` are the lent output at entry and at exit
-pub record MixedTable (vs : List Voice) (n frames : ℕ) (trem : Float) (samples old new : List Float) (r : List Voice) : Type 0 where
-  pub mixed : Sized frames (copiesIn (voicesOf (seenFirst n vs))) (length samples) (length old)
-      → MixedAs frames trem samples (seenFirst n vs) (seenFirst n r) new
-  -- lent numbers of another size leave all as it is
-  pub refused : (Sized frames (copiesIn (voicesOf (seenFirst n vs))) (length samples) (length old) → ⊥) → (r ≡ vs) × (new ≡ old)
+-- r is the voice v after the frames; the sums of both sides at entry and at exit
+pub record AddedAs (v : Voice) (n : ℕ) (trem : Float) (samples : List Float) (p : ℕ) (left₀ right₀ left right : List Float) (r : Voice) : Type 0 where
+  pub voice : Fits v n p samples left₀ right₀ → seen r ≡ onSeen (agedVoice n) (seen v)
+  pub leftSums : Fits v n p samples left₀ right₀ → left ≡ addedVoice onLeft v n trem samples p left₀
+  pub rightSums : Fits v n p samples left₀ right₀ → right ≡ addedVoice onRight v n trem samples p right₀
+  -- numbers of another size leave all as it is
+  pub refused : (Fits v n p samples left₀ right₀ → ⊥) → (r ≡ v) × (left ≡ left₀) × (right ≡ right₀)
+
+-- two places of the output for each of m frames, and a sum of each side
+pub record FitsOut (m : ℕ) (left right out : List Float) : Type 0 where
+  pub leftSums : m ≤ length left
+  pub rightSums : m ≤ length right
+  pub places : 2 * m ≡ length out
+
+-- "left first"
+pub record PutAs (left right : List Float) (m : ℕ) (old new : List Float) : Type 0 where
+  pub written : FitsOut m left right old → new ≡ interleave (take m left) (take m right)
+  pub refused : (FitsOut m left right old → ⊥) → new ≡ old

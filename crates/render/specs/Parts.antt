@@ -3,23 +3,17 @@ use mathlib.Core.Path.{_≡_}
 use mathlib.Core.List.{List}
 use Prim.Native.Nat.{ℕ, _+_}
 use lib.Ieee.{Float}
-use lib.ListN.{length, take, drop}
-use Rattle.lists.specs.Prefix.{fold}
+use lib.ListN.{take, drop}
 use Rattle.stream.specs.declared.UnisonCopy.{UnisonCopy}
-use Rattle.model.specs.Types as model
-use Rattle.model.specs.Mix.{levels, addSide, Mixing, mixing}
+use Rattle.model.specs.Mix.{addSide, Mixing, mixing}
 
 -- the m samples from `at` on
 abbrev pub row : ℕ → ℕ → List Float → List Float
 row at m xs = take m (drop at xs)
 
--- `sideCopy` and `sideVoice` of a part; a copy has n samples
-module _ (gainOf : UnisonCopy → Float) (n a m : ℕ) where
-  unfoldable pub partCopy : List Float → Mixing → UnisonCopy → Mixing
-  partCopy es z c = mixing (drop n (z .samples)) (addSide (gainOf c) (row a m (z .samples)) es (z .sums))
-
-  unfoldable pub partVoice : Float → Mixing → model.Voice → Mixing
-  partVoice trem z v = fold (partCopy (levels (v .gain) trem m (v .env))) z (v .copies)
+-- `sideCopy` of a part; a copy has n samples
+unfoldable pub partCopy : (UnisonCopy → Float) → ℕ → ℕ → ℕ → List Float → Mixing → UnisonCopy → Mixing
+partCopy gainOf n a m es z c = mixing (drop n (z .samples)) (addSide (gainOf c) (row a m (z .samples)) es (z .sums))
 
 -- four copies, one after the other
 pub record Gains : Type 0 where
@@ -40,5 +34,3 @@ addFour g at n m xs es cs =
 pub record BothSides {A : Type 0} (added : A → List Float → List Float) (x y : A) (left₀ right₀ left right : List Float) : Type 0 where
   pub onLeft : left ≡ added x left₀
   pub onRight : right ≡ added y right₀
-  pub leftSize : length left ≡ 64
-  pub rightSize : length right ≡ 64

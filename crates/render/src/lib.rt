@@ -1,30 +1,20 @@
-// Mix over the voice table (the Rust's `render_block` of instrument/mod.rs), in parts of at most 64 frames.
+// A voice in the mix (the Rust's `render_block` of instrument/mod.rs), in parts of at most 64 frames.
 // Each sum takes its terms in the order of the Rust: voice by voice, copy by copy.
 
 ghost use mathlib.Core.Path.{_≡_};
 ghost use mathlib.Core.Bool.{not};
-ghost use mathlib.Core.List.{map, _++_};
 ghost use Prim.Native.Nat.{_+_, _*_, _≤_, min};
+ghost use lib.Dec.{leb};
 ghost use lib.ListN.{length, take, drop};
 ghost use Rattle.lists.specs.Prefix.{fold};
-ghost use Rattle.model.specs.Voices.{agedVoice, isEnded, copiesIn};
+ghost use Rattle.model.specs.Voices.{aged, isEnded};
 ghost use Rattle.model.specs.Mix.{addSide, mixing, interleave, onLeft, onRight};
-ghost use Rattle.voice.specs.View.{shown, seen};
-ghost use Rattle.voices.specs.View.{seenFirst, voicesOf};
-ghost use Rattle.voice.specs.Changes.{onSeen};
-ghost use Rattle.render.specs.Parts.{row, partCopy, partVoice, gains, addFour, BothSides};
-ghost use Rattle.render.specs.Mixes.{MixedAs, MixedTable};
-ghost use Rattle.render.specs.Retains.{RetainedFrom};
+ghost use Rattle.voice.specs.View.{shown};
+ghost use Rattle.render.specs.Parts.{row, partCopy, gains, addFour, BothSides};
+ghost use Rattle.render.specs.Mixes.{Fits, AddedAs, addedVoice, FitsOut, PutAs};
+use envelope::EnvGen;
 use stream::UnisonCopy;
 use voice::Voice;
-
-// The voices that go on, and the handles of those that ended.
-pub struct Retained {
-    pub voices: [Voice; 64],
-    pub count: usize,
-    pub ended: [u64; 64],
-    pub ended_count: usize,
-}
 
 fn smaller(a: usize, b: usize) -> usize
     ensures { λ r. ⌜ r ≡ min a b ⌝ }
@@ -40,10 +30,10 @@ fn add_one(
     m: usize,
     l: f32,
     r: f32,
-    left: &mut [f32; 64],
-    right: &mut [f32; 64],
+    left: &mut [f32],
+    right: &mut [f32],
 )
-    requires { ⌜ (at + m ≤ length (now samples)) × (m ≤ 64) × (length (now env) ≡ 64) × (length (now left) ≡ 64) × (length (now right) ≡ 64) ⌝ }
+    requires { ⌜ (at + m ≤ length (now samples)) × (m ≤ 64) × (length (now env) ≡ 64) × (m ≤ length (now left)) × (m ≤ length (now right)) ⌝ }
     ensures { λ _. ⌜ BothSides (λ g. addSide g (row at m (now (samples .entry))) (take m (now (env .entry)))) l r (now (left .entry)) (now (right .entry)) (now (left .exit)) (now (right .exit)) ⌝ }
 {
     let mut f: usize = 0;
@@ -71,10 +61,10 @@ fn add_four(
     rb: f32,
     rc: f32,
     rd: f32,
-    left: &mut [f32; 64],
-    right: &mut [f32; 64],
+    left: &mut [f32],
+    right: &mut [f32],
 )
-    requires { ⌜ (at + n + n + n + m ≤ length (now samples)) × (m ≤ 64) × (length (now env) ≡ 64) × (length (now left) ≡ 64) × (length (now right) ≡ 64) ⌝ }
+    requires { ⌜ (at + n + n + n + m ≤ length (now samples)) × (m ≤ 64) × (length (now env) ≡ 64) × (m ≤ length (now left)) × (m ≤ length (now right)) ⌝ }
     ensures { λ _. ⌜ BothSides (λ g. addFour g at n m (now (samples .entry)) (take m (now (env .entry)))) (gains la lb lc ld) (gains ra rb rc rd) (now (left .entry)) (now (right .entry)) (now (left .exit)) (now (right .exit)) ⌝ }
 {
     let b = at + n;
@@ -104,10 +94,10 @@ fn add_four_copies(
     b: UnisonCopy,
     c: UnisonCopy,
     d: UnisonCopy,
-    left: &mut [f32; 64],
-    right: &mut [f32; 64],
+    left: &mut [f32],
+    right: &mut [f32],
 )
-    requires { ⌜ (at + n + n + n + m ≤ length (now samples)) × (m ≤ 64) × (length (now env) ≡ 64) × (length (now left) ≡ 64) × (length (now right) ≡ 64) ⌝ }
+    requires { ⌜ (at + n + n + n + m ≤ length (now samples)) × (m ≤ 64) × (length (now env) ≡ 64) × (m ≤ length (now left)) × (m ≤ length (now right)) ⌝ }
     ensures { λ _. ⌜ BothSides (λ side. addFour (gains (side a) (side b) (side c) (side d)) at n m (now (samples .entry)) (take m (now (env .entry)))) onLeft onRight (now (left .entry)) (now (right .entry)) (now (left .exit)) (now (right .exit)) ⌝ }
 {
     add_four(
@@ -138,10 +128,10 @@ fn add_copies(
     a: usize,
     env: &[f32; 64],
     m: usize,
-    left: &mut [f32; 64],
-    right: &mut [f32; 64],
+    left: &mut [f32],
+    right: &mut [f32],
 )
-    requires { ⌜ (p + n * length (shown v .copies) ≤ length (now samples)) × (a + m ≤ n) × (m ≤ 64) × (length (now env) ≡ 64) × (length (now left) ≡ 64) × (length (now right) ≡ 64) ⌝ }
+    requires { ⌜ (p + n * length (shown v .copies) ≤ length (now samples)) × (a + m ≤ n) × (m ≤ 64) × (length (now env) ≡ 64) × (m ≤ length (now left)) × (m ≤ length (now right)) ⌝ }
     ensures { λ _. ⌜ BothSides (λ side sums. fold (partCopy side n a m (take m (now (env .entry)))) (mixing (drop p (now (samples .entry))) sums) (shown v .copies) .sums) onLeft onRight (now (left .entry)) (now (right .entry)) (now (left .exit)) (now (right .exit)) ⌝ }
 {
     let k = v.copies_shown();
@@ -165,65 +155,90 @@ fn add_copies(
     }
 }
 
-// One voice goes into a part, and is m frames older.
-fn add_voice(
+// A voice goes into the sums part by part, and the envelope of the next part is the one behind this.
+fn add_parts(
     v: Voice,
     n: usize,
-    a: usize,
-    m: usize,
     trem: f32,
     samples: &[f32],
     p: usize,
-    left: &mut [f32; 64],
-    right: &mut [f32; 64],
-) -> Voice
-    requires { ⌜ (p + n * length (shown v .copies) ≤ length (now samples)) × (a + m ≤ n) × (m ≤ 64) × (length (now left) ≡ 64) × (length (now right) ≡ 64) ⌝ }
-    ensures { λ r. ⌜ (seen r ≡ onSeen (agedVoice m) (seen v)) × BothSides (λ side sums. partVoice side n a m trem (mixing (drop p (now (samples .entry))) sums) (shown v) .sums) onLeft onRight (now (left .entry)) (now (right .entry)) (now (left .exit)) (now (right .exit)) ⌝ }
+    left: &mut [f32],
+    right: &mut [f32],
+) -> EnvGen
+    requires { ⌜ Fits v n p (now samples) (now left) (now right) ⌝ }
+    ensures { λ r. ⌜ (r ≡ aged n (v .env)) × BothSides (λ side. addedVoice side v n trem (now (samples .entry)) p) onLeft onRight (now (left .entry)) (now (right .entry)) (now (left .exit)) (now (right .exit)) ⌝ }
 {
-    let filled = levels::fill(v.env, v.gain, trem, m);
-    let env = filled.levels;
-    add_copies(v, samples, p, n, a, &env, m, left, right);
-    let e = filled.env;
+    let mut e = v.env;
+    let mut a: usize = 0;
+    while a < n {
+        let m = smaller(n - a, 64);
+        let end = a + m;
+        let filled = levels::fill(e, v.gain, trem, m);
+        let env = filled.levels;
+        add_copies(
+            v,
+            samples,
+            p,
+            n,
+            a,
+            &env,
+            m,
+            &mut left[a..end],
+            &mut right[a..end],
+        );
+        e = filled.env;
+        a = end;
+    }
+    e
+}
+
+// Whether n numbers for each of k copies stand from p on, of `len`.
+fn stand_from(p: usize, n: usize, k: usize, len: usize) -> bool
+    requires { ⌜ (n ≤ 1024) × (k ≤ 8) ⌝ }
+    ensures { λ r. ⌜ r ≡ leb (p + n * k) len ⌝ }
+{
+    if p <= len {
+        return n * k <= len - p;
+    }
+    false
+}
+
+// One voice goes into the sums of both sides, its samples from p on, and is n frames older. Where something does not fit, all is left as it is.
+pub fn add_voice(
+    v: Voice,
+    n: usize,
+    trem: f32,
+    samples: &[f32],
+    p: usize,
+    left: &mut [f32],
+    right: &mut [f32],
+) -> Voice
+    ensures { λ r. ⌜ AddedAs v n trem (now (samples .entry)) p (now (left .entry)) (now (right .entry)) (now (left .exit)) (now (right .exit)) r ⌝ }
+{
+    if n > 1024 {
+        return v;
+    }
+    if n > left.len() {
+        return v;
+    }
+    if n > right.len() {
+        return v;
+    }
+    if !stand_from(p, n, v.copies_shown(), samples.len()) {
+        return v;
+    }
+    let e = add_parts(v, n, trem, samples, p, left, right);
     let mut w = v;
     w.env = e;
     w
 }
 
-// All the voices go into a part.
-fn add_voices(
-    vs: [Voice; 64],
-    count: usize,
-    n: usize,
-    a: usize,
-    m: usize,
-    trem: f32,
-    samples: &[f32],
-    left: &mut [f32; 64],
-    right: &mut [f32; 64],
-) -> [Voice; 64]
-    requires { ⌜ (n * copiesIn (voicesOf (seenFirst count vs)) ≡ length (now samples)) × (a + m ≤ n) × (m ≤ 64) × (length (now left) ≡ 64) × (length (now right) ≡ 64) ⌝ }
-    ensures { λ r. ⌜ (seenFirst count r ≡ map (onSeen (agedVoice m)) (seenFirst count vs)) × BothSides (λ side sums. fold (partVoice side n a m trem) (mixing (now (samples .entry)) sums) (voicesOf (seenFirst count vs)) .sums) onLeft onRight (now (left .entry)) (now (right .entry)) (now (left .exit)) (now (right .exit)) ⌝ }
+// m sums of each side, left before right.
+fn put_pairs(left: &[f32], right: &[f32], m: usize, out: &mut [f32])
+    requires { ⌜ FitsOut m (now left) (now right) (now out) ⌝ }
+    ensures { λ _. ⌜ now (out .exit) ≡ interleave (take m (now (left .entry))) (take m (now (right .entry))) ⌝ }
 {
-    let k = smaller(count, 64);
-    let mut ws = vs;
     let mut p: usize = 0;
-    let mut i: usize = 0;
-    while i < k {
-        let v = ws[i];
-        let next = p + n * v.copies_shown();
-        ws[i] = add_voice(v, n, a, m, trem, samples, p, left, right);
-        p = next;
-        i += 1;
-    }
-    ws
-}
-
-// A part is written to its place, left before right.
-fn put(left: &[f32; 64], right: &[f32; 64], m: usize, a: usize, out: &mut [f32])
-    requires { ⌜ (m ≤ 64) × (a + a + (m + m) ≤ length (now out)) × (length (now left) ≡ 64) × (length (now right) ≡ 64) ⌝ }
-    ensures { λ _. ⌜ take (a + a + (m + m)) (now (out .exit)) ≡ take (a + a) (now (out .entry)) ++ interleave (take m (now (left .entry))) (take m (now (right .entry))) ⌝ }
-{
-    let mut p = a + a;
     let mut f: usize = 0;
     while f < m {
         out[p] = left[f];
@@ -233,54 +248,24 @@ fn put(left: &[f32; 64], right: &[f32; 64], m: usize, a: usize, out: &mut [f32])
     }
 }
 
-// The whole mix, part by part.
-fn mix_parts(
-    vs: [Voice; 64],
-    n: usize,
-    frames: usize,
-    trem: f32,
-    samples: &[f32],
-    out: &mut [f32],
-) -> [Voice; 64]
-    requires { ⌜ (frames * copiesIn (voicesOf (seenFirst n vs)) ≡ length (now samples)) × (2 * frames ≡ length (now out)) ⌝ }
-    ensures { λ r. ⌜ MixedAs frames trem (now (samples .entry)) (seenFirst n vs) (seenFirst n r) (now (out .exit)) ⌝ }
+// The first m sums of both sides are written, left before right. Where something does not fit, all is left as it is.
+pub fn put(left: &[f32], right: &[f32], m: usize, out: &mut [f32])
+    ensures { λ _. ⌜ PutAs (now (left .entry)) (now (right .entry)) m (now (out .entry)) (now (out .exit)) ⌝ }
 {
-    let mut ws = vs;
-    let mut a: usize = 0;
-    while a < frames {
-        let m = smaller(frames - a, 64);
-        let mut left = [0.0f32; 64];
-        let mut right = [0.0f32; 64];
-        let ys = add_voices(ws, n, frames, a, m, trem, samples, &mut left, &mut right);
-        ws = ys;
-        put(&left, &right, m, a, out);
-        a += m;
+    if m > left.len() {
+        return;
     }
-    ws
-}
-
-// The voices go into the output, and are `frames` samples older. Lent numbers of another size leave all as it is.
-pub fn mix_all(
-    vs: [Voice; 64],
-    n: usize,
-    frames: usize,
-    trem: f32,
-    samples: &[f32],
-    out: &mut [f32],
-) -> [Voice; 64]
-    ensures { λ r. ⌜ MixedTable vs n frames trem (now (samples .entry)) (now (out .entry)) (now (out .exit)) r ⌝ }
-{
-    if !voices::fills(frames, voices::copies_in(vs, n), samples.len()) {
-        return vs;
+    if m > right.len() {
+        return;
     }
-    if !voices::fills(2, frames, out.len()) {
-        return vs;
+    if !voices::fills(2, m, out.len()) {
+        return;
     }
-    mix_parts(vs, n, frames, trem, samples, out)
+    put_pairs(left, right, m, out);
 }
 
 // Whether a voice goes on: neither run down nor faded.
-fn goes_on(v: Voice) -> bool
+pub fn goes_on(v: Voice) -> bool
     ensures { λ r. ⌜ r ≡ not (isEnded (shown v)) ⌝ }
 {
     let e = v.env;
@@ -288,33 +273,4 @@ fn goes_on(v: Voice) -> bool
         return false;
     }
     !e.faded()
-}
-
-// Ended voices leave the table; the others move up.
-pub fn retain(vs: [Voice; 64], n: usize) -> Retained
-    ensures { λ r. ⌜ RetainedFrom vs n r ⌝ }
-{
-    let m = smaller(n, 64);
-    let mut ws = vs;
-    let mut ended = [0u64; 64];
-    let mut w: usize = 0;
-    let mut k: usize = 0;
-    let mut i: usize = 0;
-    while i < m {
-        let v = ws[i];
-        if goes_on(v) {
-            ws[w] = v;
-            w += 1;
-        } else {
-            ended[k] = v.handle;
-            k += 1;
-        }
-        i += 1;
-    }
-    Retained {
-        voices: ws,
-        count: w,
-        ended,
-        ended_count: k,
-    }
 }

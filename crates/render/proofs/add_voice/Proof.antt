@@ -1,32 +1,102 @@
-use mathlib.Core.Path.{_≡_}
-use Prim.Native.Nat.{min}
+use mathlib.Core.Path.{_≡_, refl, sym, _∙_}
+use mathlib.Core.Bool.{true}
+use mathlib.Core.List.{List}
+use Prim.Native.Nat.{ℕ, _+_, _*_, _≤_, _<_}
 use native.Mathlib.Omega.{arith}
+use borrow.Author.Tests.{not-true, not-false, leb-true, leb-false}
 use borrow.Author.Needs.{needs}
-use lib.ListN.{drop}
+use lib.Dec.{leb}
+use lib.Ieee.{Float}
+use lib.ListN.{length}
 use Rattle.model.specs.Voices.{withVoice, agedVoice}
-use Rattle.voice.specs.View.{shown}
-use Rattle.voice.specs.View.{seen}
+use Rattle.voice.specs.declared.Voice.{Voice}
+use Rattle.voice.specs.View.{shown, seen}
 use Rattle.voice.specs.Changes.{onSeen}
-use Rattle.render.proofs.Turns.{voice-sides}
+use Rattle.render.specs.Mixes.{Fits, AddedAs}
 use Rattle.render.proofs.add_voice.Statement.{statement}
 use Rattle.render.proofs.add_voice.Tie as tie
 
-fill-requires : tie.Need-fill-requires
-fill-requires c κs = search needs
+module _ (v : Voice) (n : ℕ) (trem : Float) (samples : List Float) (p : ℕ) (left right : List Float) where
+  left-alone : (Fits v n p samples left right → ⊥) → AddedAs v n trem samples p left right left right v
+  left-alone f = record { voice = λ h. absurd (f h); leftSums = λ h. absurd (f h); rightSums = λ h. absurd (f h); refused = λ _. (refl, refl, refl) }
 
-add-copies-requires : tie.Need-add-copies-requires
-add-copies-requires c κs =
-    let p = c .before .before .before .before .before .before .pre in
-    (p .0, p .1, p .2, c .before .before .before .before .fill .ensures .size, p .3, p .4)
+  long-block : 1024 < n → AddedAs v n trem samples p left right left right v
+  long-block e = left-alone (λ h. let g = h .frames in omega arith)
+
+  few-left : length left < n → AddedAs v n trem samples p left right left right v
+  few-left e = left-alone (λ h. let g = h .leftSums in omega arith)
+
+  few-right : length right < n → AddedAs v n trem samples p left right left right v
+  few-right e = left-alone (λ h. let g = h .rightSums in omega arith)
+
+  few-samples : (k : ℕ) → k ≡ length (shown v .copies) → length samples < p + n * k → AddedAs v n trem samples p left right left right v
+  few-samples k e l = left-alone (λ h. let g = rw (← e) at (h .inputs) in omega arith)
+
+-- the code's test of the samples, on the copies that the voice has
+room : (p n k copies len : ℕ) → k ≡ copies → leb (p + n * k) len ≡ true → p + n * copies ≤ len
+room p n k copies len e h = rw e at (leb-true (p + n * k) len h)
+
+-- every test passed
+module _ (t : tie.Else4) where
+  fits : let x = t .before .before .before .before .before .before .before .before .before .args in Fits (x .v) (x .n) (x .p) (x .samples .now) (x .left .now) (x .right .now)
+  fits =
+      let k = t .before .before .copies-shown in
+      record {
+        frames = omega arith;
+        inputs = room _ _ _ _ _ (k .ensures .1) (sym (t .before .stand-from .ensures) ∙ not-false _ (t .if4 .left));
+        leftSums = omega arith;
+        rightSums = omega arith;
+      }
 
 returns : tie.Need-returns
+returns c = long-block _ _ _ _ _ _ _ (c .if1 .taken)
+
+returns-2 : tie.Need-returns-2
+returns-2 c = few-left _ _ _ _ _ _ _ (c .if2 .taken)
+
+returns-3 : tie.Need-returns-3
+returns-3 c = few-right _ _ _ _ _ _ _ (c .if3 .taken)
+
+copies-shown-requires : tie.Need-copies-shown-requires
+copies-shown-requires c κs = search needs
+
+stand-from-requires : tie.Need-stand-from-requires
+stand-from-requires c κs = search needs
+
+returns-4 : tie.Need-returns-4
+returns-4 c = few-samples _ _ _ _ _ _ _ _ (c .before .before .copies-shown .ensures .1) (leb-false _ _ (sym (c .before .stand-from .ensures) ∙ not-true _ (c .if4 .taken)))
+
+add-parts-requires : tie.Need-add-parts-requires
+add-parts-requires c κs = fits (c .before .before)
+
+same-length : tie.Need-same-length
+same-length c = search needs
+
+same-length-2 : tie.Need-same-length-2
+same-length-2 c = search needs
+
+returns-5 : tie.Need-returns-5
 unfolding seen shown onSeen agedVoice withVoice
-returns c =
-    let s = c .before .before .before .before .before .before .before .before in
-    let x = s .args in
-    let all : min (x .m) 64 ≡ x .m = omega (arith, s .pre .2) in
-    let f = c .before .before .before .before .before .before .fill .ensures in
-    (rw (f .env, all), voice-sides (x .n) (x .a) (x .m) (x .trem) (drop (x .p) (x .samples .now)) _ (shown (x .v)) (x .left .now) (x .right .now) _ _ (rw all at (f .numbers)) (c .before .add-copies .ensures))
+returns-5 c =
+    let e = c .before .before .before .before .add-parts .ensures in
+    record {
+      voice = λ _. rw (e .0);
+      leftSums = λ _. e .1 .onLeft;
+      rightSums = λ _. e .1 .onRight;
+      refused = λ f. absurd (f (fits (c .before .before .before .before .before .before .before)));
+    }
 
 pub add-voice-spec : {M : Type 1} → statement M
-add-voice-spec = tie.close (tie.spec fill-requires add-copies-requires returns)
+add-voice-spec =
+    tie.close
+    (tie.spec
+    returns
+    returns-2
+    returns-3
+    copies-shown-requires
+    stand-from-requires
+    returns-4
+    add-parts-requires
+    same-length
+    same-length-2
+    returns-5)

@@ -1,103 +1,66 @@
-use mathlib.Core.List.{append-nil, _++_}
-use mathlib.Core.Path.{_≡_}
-use Prim.Native.Nat.{_≤_, _-_, _+_}
+use mathlib.Core.Path.{_≡_, refl, sym, _∙_}
+use mathlib.Core.Bool.{false}
+use mathlib.Core.List.{List}
+use Prim.Native.Nat.{ℕ, _*_, _<_}
 use native.Mathlib.Omega.{arith}
+use borrow.Author.Tests.{not-true, not-false, eq-eqb, eqb-true}
 use borrow.Author.Needs.{needs}
-use lib.ListN.{length-set, length, take}
+use lib.Dec.{eqb}
+use lib.Ieee.{Float}
+use lib.ListN.{length, take}
+use Rattle.lists.specs.Choose.{clash}
 use Rattle.model.specs.Mix.{interleave}
-use Rattle.render.proofs.Turns.{put-more}
+use Rattle.render.specs.Mixes.{FitsOut, PutAs}
 use Rattle.render.proofs.put.Statement.{statement}
 use Rattle.render.proofs.put.Tie as tie
 
-abbrev Inv-loop : tie.InvT-loop
-Inv-loop left right m a out₀ p₀ f₀ out p f = (f ≤ m) × (p ≡ a + a + (f + f)) × (length out ≡ length out₀) × (take (a + a + (f + f)) out ≡ take (a + a) out₀ ++ interleave (take f left) (take f right))
+module _ (left right : List Float) (m : ℕ) (old : List Float) where
+  left-alone : (FitsOut m left right old → ⊥) → PutAs left right m old old
+  left-alone f = record { written = λ h. absurd (f h); refused = λ _. refl }
 
-abbrev μ-loop : tie.MeasureT-loop
-μ-loop left right m a out₀ p₀ f₀ out p f = m - f
+  few-left : length left < m → PutAs left right m old old
+  few-left e = left-alone (λ h. let g = h .leftSums in omega arith)
 
-add-p : tie.Need-add-p Inv-loop μ-loop
-add-p c = omega arith
+  few-right : length right < m → PutAs left right m old old
+  few-right e = left-alone (λ h. let g = h .rightSums in omega arith)
 
-loop-holds : tie.Need-loop-holds Inv-loop μ-loop
-loop-holds c =
-    let z : c .args .a + c .args .a + (0 + 0) ≡ c .args .a + c .args .a = omega arith in
-    (search needs, search needs, search needs, rw (append-nil, z))
+  other-places : eqb (2 * m) (length old) ≡ false → PutAs left right m old old
+  other-places e = left-alone (λ h. clash _ (eq-eqb _ _ (h .places)) e)
 
-mul-out : tie.Need-mul-out Inv-loop μ-loop
-mul-out c = omega arith
+  done : (new : List Float) → FitsOut m left right old → new ≡ interleave (take m left) (take m right) → PutAs left right m old new
+  done new h e = record { written = λ _. e; refused = λ f. absurd (f h) }
 
-element-copy-out-out : tie.Need-element-copy-out-out Inv-loop μ-loop
-element-copy-out-out c = search needs
+-- every test passed
+module _ (t : tie.Else3) where
+  fits : let x = t .before .before .before .before .before .before .before .args in FitsOut (x .m) (x .left .now) (x .right .now) (x .out .now)
+  fits = record {
+    leftSums = omega arith;
+    rightSums = omega arith;
+    places = eqb-true _ _ (sym (t .before .fills .ensures) ∙ not-false _ (t .if3 .left));
+  }
 
-mul-out-2 : tie.Need-mul-out-2 Inv-loop μ-loop
-mul-out-2 c = omega arith
+returns : tie.Need-returns
+returns c = few-left _ _ _ _ (c .if1 .taken)
 
-slice-write-out : tie.Need-slice-write-out Inv-loop μ-loop
-slice-write-out c = search needs
+returns-2 : tie.Need-returns-2
+returns-2 c = few-right _ _ _ _ (c .if2 .taken)
 
-mul-out-3 : tie.Need-mul-out-3 Inv-loop μ-loop
-mul-out-3 c = omega arith
+fills-requires : tie.Need-fills-requires
+fills-requires c κs = search needs
 
-element-copy-out-out-2 : tie.Need-element-copy-out-out-2 Inv-loop μ-loop
-element-copy-out-out-2 c = search needs
+returns-3 : tie.Need-returns-3
+returns-3 c = other-places _ _ _ _ (sym (c .before .fills .ensures) ∙ not-true _ (c .if3 .taken))
 
-add-out : tie.Need-add-out Inv-loop μ-loop
-add-out c = omega arith
+put-pairs-requires : tie.Need-put-pairs-requires
+put-pairs-requires c κs = fits (c .before)
 
-mul-out-4 : tie.Need-mul-out-4 Inv-loop μ-loop
-mul-out-4 c = omega arith
-
-slice-write-out-2 : tie.Need-slice-write-out-2 Inv-loop μ-loop
-slice-write-out-2 c = simp length-set (omega arith)
-
-add-p-2 : tie.Need-add-p-2 Inv-loop μ-loop
-add-p-2 c = omega arith
-
-add-f : tie.Need-add-f Inv-loop μ-loop
-add-f c = omega arith
-
-loop-less : tie.Need-loop-less Inv-loop μ-loop
-loop-less c = omega arith
-
-loop-again : tie.Need-loop-again Inv-loop μ-loop
-loop-again c =
-    let b = c .before .before .before in
-    let s = b .before .args in
-    let i = b .loop .inv in (
-      omega arith,
-      omega arith,
-      simp length-set (i .2),
-      put-more (b .loop .out) (s .left .now) (s .right .now) (take (s .a + s .a) (s .out .now)) (s .a + s .a) (b .loop .p) (b .loop .f) (i .1) (omega arith) (omega arith) (omega arith) (i .3),
-    )
-
-same-length : tie.Need-same-length Inv-loop μ-loop
+same-length : tie.Need-same-length
 same-length c = search needs
 
-returns : tie.Need-returns Inv-loop μ-loop
-returns c =
-    let e : c .before .loop .f ≡ c .before .before .args .m = omega arith in
-    rw e at (c .before .loop .inv .3)
+returns-4 : tie.Need-returns-4
+returns-4 c = done _ _ _ _ _ (fits (c .before .before .before .before)) (c .before .before .put-pairs .ensures)
 
 pub put-spec : {M : Type 1} → statement M
 put-spec =
     tie.close
-    (tie.spec
-    Inv-loop
-    μ-loop
-    add-p
-    loop-holds
-    mul-out
-    element-copy-out-out
-    mul-out-2
-    slice-write-out
-    mul-out-3
-    element-copy-out-out-2
-    add-out
-    mul-out-4
-    slice-write-out-2
-    add-p-2
-    add-f
-    loop-less
-    loop-again
-    same-length
-    returns)
+    (tie.spec returns returns-2 fills-requires returns-3 put-pairs-requires same-length returns-4)
