@@ -1,11 +1,15 @@
 -- What a glide over one part of the curve makes of the whole.
 use mathlib.Core.Path.{_≡_, refl, ap, sym, _∙_}
+use mathlib.Core.Bool.{Bool, true, false}
 use mathlib.Core.List.{List, [], _∷_, _++_, flatMap}
 use Prim.Native.Nat.{ℕ, zero, suc, _+_, _*_, _≤_, _<_, min}
 use native.Mathlib.Nat.{mul-zero, mul-suc}
 use native.Mathlib.Omega.{arith}
+use borrow.Author.Tests.{eq-eqb, eqb-true}
+use lib.Dec.{eqb}
 use lib.Ieee.{Float}
 use lib.ListN.{length, take, drop, getD, length-append}
+use Rattle.lists.specs.Choose.{clash}
 use Rattle.lists.specs.Parts.{part-size, part-front, flat-more}
 use Rattle.stream.specs.declared.UnisonCopy.{UnisonCopy}
 use Rattle.stream.specs.Pitch.{glided, curve, stepped, GlidedOver}
@@ -60,3 +64,14 @@ module _ (n : ℕ) (vs : List Voice) (v : Voice) (i frames : ℕ) (len : length 
       ∙ ap (λ (z : List Float). z ++ flatMap (curve frames) (shown v .copies)) w
       ∙ ap (λ (u : model.Voice). flatMap g (take i (table n vs)) ++ g u) (sym (read-here n vs v i len h read))
       ∙ sym (flat-more g (table n vs) i model.noVoice (in-table n vs v i len h read))
+
+-- the code's test of the size, on the copies that count
+module _ (b : Bool) (frames k rows len : ℕ) (e : b ≡ eqb (frames * k) len) (f : k ≡ rows) where
+  told : eqb (frames * rows) len ≡ b
+  told = rw (e, f)
+
+  pub fits : b ≡ true → frames * rows ≡ len
+  fits t = eqb-true _ _ (told ∙ t)
+
+  pub misfits : b ≡ false → frames * rows ≡ len → ⊥
+  misfits t h = clash _ (eq-eqb _ _ h) (told ∙ t)

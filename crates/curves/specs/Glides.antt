@@ -1,17 +1,15 @@
--- What a glide over the table promises (document 01, "Copies, Plan and Mix": "n pitch numbers per copy by `glide_block`, voice by voice").
+-- What the glide of a voice promises (document 01, "Copies, Plan and Mix": "n pitch numbers per copy by `glide_block`, voice by voice").
 use mathlib.Core.Path.{_≡_}
-use mathlib.Core.List.{List, map, _++_}
+use mathlib.Core.List.{List, _++_, flatMap}
 use Prim.Native.Nat.{ℕ, _+_, _*_}
 use lib.Ieee.{Float}
 use lib.ListN.{length, take}
 use Rattle.stream.specs.declared.UnisonCopy.{UnisonCopy}
 use Rattle.stream.specs.Pitch.{pitched, glided, curve}
 use Rattle.curves.specs.declared.Four.{Four}
-use Rattle.model.specs.Voices.{withCopies, copiesIn}
-use Rattle.model.specs.Plan.{curves}
-use Rattle.voice.specs.View.{Seen}
+use Rattle.model.specs.Voices.{withCopies}
 use Rattle.voice.specs.declared.Voice.{Voice}
-use Rattle.voices.specs.View.{seenFirst, voicesOf}
+use Rattle.voice.specs.View.{shown, seen}
 use Rattle.voice.specs.Changes.{onSeen}
 
 -- four copies at other pitches
@@ -32,12 +30,21 @@ pub record FourGlided (n at : ℕ) (a b c d : UnisonCopy) (old new : List Float)
   pub size : length new ≡ length old
   pub numbers : take (at + n + n + n + n) new ≡ take at old ++ curve n a ++ curve n b ++ curve n c ++ curve n d
 
--- the table before and after, and the lent numbers at exit
-pub record GlidedTable (frames : ℕ) (before after : List Seen) (numbers : List Float) : Type 0 where
-  pub voices : after ≡ map (onSeen (withCopies (glided frames))) before
-  pub curve : numbers ≡ curves frames (voicesOf before)
+-- the numbers of a voice, copy by copy
+abbrev pub voiceCurve : ℕ → Voice → List Float
+voiceCurve frames v = flatMap (curve frames) (shown v .copies)
 
--- the table and the lent curve: a curve of another size, and the table with it, are left as they are
-pub record GlidedAll (n frames : ℕ) (vs ws : List Voice) (old new : List Float) : Type 0 where
-  pub fits : frames * copiesIn (voicesOf (seenFirst n vs)) ≡ length old → GlidedTable frames (seenFirst n vs) (seenFirst n ws) new
-  pub other : (frames * copiesIn (voicesOf (seenFirst n vs)) ≡ length old → ⊥) → (ws ≡ vs) × (new ≡ old)
+-- the curve has n numbers for each copy
+abbrev pub Fits : ℕ → Voice → List Float → Type 0
+Fits frames v old = frames * length (shown v .copies) ≡ length old
+
+-- a voice and its part of the curve, n samples later; a part of another size, and the voice with it, are left as they are
+pub record GlidedVoice (frames : ℕ) (v w : Voice) (old new : List Float) : Type 0 where
+  pub voice : Fits frames v old → seen w ≡ onSeen (withCopies (glided frames)) (seen v)
+  pub numbers : Fits frames v old → new ≡ voiceCurve frames v
+  pub other : (Fits frames v old → ⊥) → (w ≡ v) × (new ≡ old)
+
+-- the numbers alone
+pub record WrittenVoice (frames : ℕ) (v : Voice) (old new : List Float) : Type 0 where
+  pub numbers : Fits frames v old → new ≡ voiceCurve frames v
+  pub other : (Fits frames v old → ⊥) → new ≡ old

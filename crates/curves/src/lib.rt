@@ -1,4 +1,4 @@
-// Plan's pass over the table: each copy writes its pitch numbers (the Rust's `glide_block`, voice by voice).
+// Plan's glide of a voice: each copy writes its pitch numbers (the Rust's `glide_block`, copy by copy).
 
 ghost use mathlib.Core.Path.{_≡_};
 ghost use mathlib.Core.Bool.{true, false};
@@ -6,11 +6,10 @@ ghost use mathlib.Core.List.{map, flatMap};
 ghost use Prim.Native.Nat.{ℕ, _+_, _*_, _≤_, min};
 ghost use lib.ListN.{length, take, replicate};
 ghost use Rattle.stream.specs.Pitch.{pitched, glideStep, glided as glidedOf, curve as curveOf, GlidedOver};
-ghost use Rattle.model.specs.Voices.{withCopies, copiesIn};
-ghost use Rattle.voice.specs.View.{shown, seen};
+ghost use Rattle.model.specs.Voices.{withCopies};
+ghost use Rattle.voice.specs.View.{seen};
 ghost use Rattle.voice.specs.Changes.{onSeen};
-ghost use Rattle.voices.specs.View.{seenFirst, voicesOf};
-ghost use Rattle.curves.specs.Glides.{pitchedFour, FourGlided, GlidedTable, GlidedAll};
+ghost use Rattle.curves.specs.Glides.{pitchedFour, FourGlided, GlidedVoice, WrittenVoice};
 use stream::UnisonCopy;
 use voice::Voice;
 
@@ -174,11 +173,13 @@ fn glide_copies(
     cs
 }
 
-// The voice `frames` samples later; its copies fill the curve, one after the other.
-fn glide_voice(v: Voice, frames: usize, curve: &mut [f32]) -> Voice
-    requires { ⌜ frames * length (shown v .copies) ≡ length (now curve) ⌝ }
-    ensures { λ r. ⌜ (seen r ≡ onSeen (withCopies (glidedOf frames)) (seen v)) × (now (curve .exit) ≡ flatMap (curveOf frames) (shown v .copies)) ⌝ }
+// The voice `frames` samples later; its copies fill the curve, one after the other. A curve of another size is left as it is.
+pub fn glide_voice(v: Voice, frames: usize, curve: &mut [f32]) -> Voice
+    ensures { λ r. ⌜ GlidedVoice frames v r (now (curve .entry)) (now (curve .exit)) ⌝ }
 {
+    if !voices::fills(frames, v.copies_shown(), curve.len()) {
+        return v;
+    }
     let copies = v.copies;
     let next = glide_copies(copies, v.copy_count, frames, curve);
     let mut w = v;
@@ -202,52 +203,19 @@ fn copies_stand(copies: [UnisonCopy; 8], count: usize) -> bool
 }
 
 // Whether the voice is the same later.
-fn stands(v: Voice) -> bool
+pub fn stands(v: Voice) -> bool
     ensures { λ r. ⌜ (r ≡ true → (frames : ℕ) → onSeen (withCopies (glidedOf frames)) (seen v) ≡ seen v) ⌝ }
 {
     let copies = v.copies;
     copies_stand(copies, v.copy_count)
 }
 
-// The numbers of a voice that stands: it need not be put back.
-fn write_voice(v: Voice, frames: usize, curve: &mut [f32])
-    requires { ⌜ frames * length (shown v .copies) ≡ length (now curve) ⌝ }
-    ensures { λ _. ⌜ now (curve .exit) ≡ flatMap (curveOf frames) (shown v .copies) ⌝ }
+// The numbers of a voice that stands: it need not be put back. A curve of another size is left as it is.
+pub fn write_voice(v: Voice, frames: usize, curve: &mut [f32])
+    ensures { λ _. ⌜ WrittenVoice frames v (now (curve .entry)) (now (curve .exit)) ⌝ }
 {
-    let copies = v.copies;
-    glide_copies(copies, v.copy_count, frames, curve);
-}
-
-fn glide_table(vs: [Voice; 64], n: usize, frames: usize, curve: &mut [f32]) -> [Voice; 64]
-    requires { ⌜ frames * copiesIn (voicesOf (seenFirst n vs)) ≡ length (now curve) ⌝ }
-    ensures { λ r. ⌜ GlidedTable frames (seenFirst n vs) (seenFirst n r) (now (curve .exit)) ⌝ }
-{
-    let m = smaller(n, 64);
-    let mut ws = vs;
-    let mut at: usize = 0;
-    let mut i: usize = 0;
-    while i < m {
-        let v = ws[i];
-        let end = at + frames * v.copies_shown();
-        if stands(v) {
-            write_voice(v, frames, &mut curve[at..end]);
-            at = end;
-            i += 1;
-        } else {
-            ws[i] = glide_voice(v, frames, &mut curve[at..end]);
-            at = end;
-            i += 1;
-        }
+    if voices::fills(frames, v.copies_shown(), curve.len()) {
+        let copies = v.copies;
+        glide_copies(copies, v.copy_count, frames, curve);
     }
-    ws
-}
-
-// The table `frames` samples later; voice by voice the copies fill the curve. A curve of another size is left as it is.
-pub fn glide_all(vs: [Voice; 64], n: usize, frames: usize, curve: &mut [f32]) -> [Voice; 64]
-    ensures { λ r. ⌜ GlidedAll n frames vs r (now (curve .entry)) (now (curve .exit)) ⌝ }
-{
-    if !voices::fills(frames, voices::copies_in(vs, n), curve.len()) {
-        return vs;
-    }
-    glide_table(vs, n, frames, curve)
 }
