@@ -1,15 +1,16 @@
 // Plan's glide of a voice: each copy writes its pitch numbers (the Rust's `glide_block`, copy by copy).
 
 ghost use mathlib.Core.Path.{_≡_};
-ghost use mathlib.Core.Bool.{true, false};
+ghost use mathlib.Core.Bool.{true, false, _&&_};
 ghost use mathlib.Core.List.{map, flatMap};
 ghost use Prim.Native.Nat.{ℕ, _+_, _*_, _≤_, min};
+ghost use lib.Dec.{eqb};
 ghost use lib.ListN.{length, take, replicate};
 ghost use Rattle.stream.specs.Pitch.{pitched, glideStep, glided as glidedOf, curve as curveOf, GlidedOver};
 ghost use Rattle.model.specs.Voices.{withCopies};
-ghost use Rattle.voice.specs.View.{seen};
+ghost use Rattle.voice.specs.View.{shown, seen};
 ghost use Rattle.voice.specs.Changes.{onSeen};
-ghost use Rattle.curves.specs.Glides.{pitchedFour, FourGlided, GlidedVoice, WrittenVoice};
+ghost use Rattle.curves.specs.Glides.{pitchedFour, FourGlided, GlidedVoice, WrittenVoice, OneEach, FourPut, GlidedVoices};
 use stream::UnisonCopy;
 use voice::Voice;
 
@@ -218,4 +219,71 @@ pub fn write_voice(v: Voice, frames: usize, curve: &mut [f32])
         let copies = v.copies;
         glide_copies(copies, v.copy_count, frames, curve);
     }
+}
+
+// Four voices that glide side by side.
+pub struct FourVoices {
+    pub a: Voice,
+    pub b: Voice,
+    pub c: Voice,
+    pub d: Voice,
+}
+
+fn each_is_one(a: usize, b: usize, c: usize, d: usize) -> bool
+    ensures { λ r. ⌜ r ≡ (eqb a 1 && (eqb b 1 && (eqb c 1 && eqb d 1))) ⌝ }
+{
+    if a != 1 {
+        return false;
+    }
+    if b != 1 {
+        return false;
+    }
+    if c != 1 {
+        return false;
+    }
+    d == 1
+}
+
+// A voice of one copy, with another in its place.
+fn with_copy(mut v: Voice, copy: UnisonCopy) -> Voice
+    requires { ⌜ length (shown v .copies) ≡ 1 ⌝ }
+    ensures { λ r. ⌜ seen r ≡ onSeen (withCopies (λ _. copy)) (seen v) ⌝ }
+{
+    v.copies[0] = copy;
+    v
+}
+
+fn with_copies(a: Voice, b: Voice, c: Voice, d: Voice, four: Four) -> FourVoices
+    requires { ⌜ OneEach a b c d ⌝ }
+    ensures { λ r. ⌜ FourPut a b c d four r ⌝ }
+{
+    let ua = four.a;
+    let ub = four.b;
+    let uc = four.c;
+    let ud = four.d;
+    FourVoices {
+        a: with_copy(a, ua),
+        b: with_copy(b, ub),
+        c: with_copy(c, uc),
+        d: with_copy(d, ud),
+    }
+}
+
+// Four voices of one copy each `frames` samples later; their copies fill the curve, one after the other. Voices of other counts,
+// and a curve of another size, are left as they are.
+pub fn glide_voices(a: Voice, b: Voice, c: Voice, d: Voice, frames: usize, curve: &mut [f32]) -> FourVoices
+    ensures { λ r. ⌜ GlidedVoices frames a b c d r (now (curve .entry)) (now (curve .exit)) ⌝ }
+{
+    if !each_is_one(a.copies_shown(), b.copies_shown(), c.copies_shown(), d.copies_shown()) {
+        return FourVoices { a, b, c, d };
+    }
+    if !voices::fills(frames, 4, curve.len()) {
+        return FourVoices { a, b, c, d };
+    }
+    let ua = a.copies[0];
+    let ub = b.copies[0];
+    let uc = c.copies[0];
+    let ud = d.copies[0];
+    let four = glide_four(ua, ub, uc, ud, frames, 0, curve);
+    with_copies(a, b, c, d, four)
 }
