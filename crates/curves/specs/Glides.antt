@@ -1,6 +1,7 @@
 -- What the glide of a voice promises (document 01, "Copies, Plan and Mix": "n pitch numbers per copy by `glide_block`, voice by voice").
 use mathlib.Core.Path.{_≡_}
-use mathlib.Core.List.{List, _++_, flatMap}
+use mathlib.Core.Bool.{Bool, true}
+use mathlib.Core.List.{List, _++_, map, flatMap}
 use Prim.Native.Nat.{ℕ, _+_, _*_}
 use lib.Ieee.{Float}
 use lib.ListN.{length, take}
@@ -30,6 +31,16 @@ pub record FourGlided (n at : ℕ) (a b c d : UnisonCopy) (old new : List Float)
   pub d-next : r .d ≡ glided n d
   pub size : length new ≡ length old
   pub numbers : take (at + n + n + n + n) new ≡ take at old ++ curve n a ++ curve n b ++ curve n c ++ curve n d
+
+-- true exactly where these copies are the same at every later sample
+pub record StandAs (cs : List UnisonCopy) (r : Bool) : Type 0 where
+  pub stay : r ≡ true → (n : ℕ) → map (glided n) cs ≡ cs
+  pub all : ((n : ℕ) → map (glided n) cs ≡ cs) → r ≡ true
+
+-- true exactly where the voice is
+pub record StandsAs (v : Voice) (r : Bool) : Type 0 where
+  pub stays : r ≡ true → (n : ℕ) → onSeen (withCopies (glided n)) (seen v) ≡ seen v
+  pub all : ((n : ℕ) → onSeen (withCopies (glided n)) (seen v) ≡ seen v) → r ≡ true
 
 -- the numbers of a voice, copy by copy
 abbrev pub voiceCurve : ℕ → Voice → List Float

@@ -10,7 +10,7 @@ ghost use Rattle.stream.specs.Pitch.{pitched, glideStep, glided as glidedOf, cu
 ghost use Rattle.model.specs.Voices.{withCopies};
 ghost use Rattle.voice.specs.View.{shown, seen};
 ghost use Rattle.voice.specs.Changes.{onSeen};
-ghost use Rattle.curves.specs.Glides.{pitchedFour, FourGlided, GlidedVoice, WrittenVoice, OneEach, FourPut, GlidedVoices};
+ghost use Rattle.curves.specs.Glides.{pitchedFour, FourGlided, StandAs, StandsAs, GlidedVoice, WrittenVoice, OneEach, FourPut, GlidedVoices};
 use stream::UnisonCopy;
 use voice::Voice;
 
@@ -22,14 +22,14 @@ fn smaller(a: usize, b: usize) -> usize
 
 // Whether two floats are the same. A comparison would take the two zeros for one.
 fn same(a: f32, b: f32) -> bool
-    ensures { λ r. ⌜ (r ≡ true → a ≡ b) ⌝ }
+    ensures { λ r. ⌜ (r ≡ true → a ≡ b) × (a ≡ b → r ≡ true) ⌝ }
 {
     float32::to_bits(a) == float32::to_bits(b)
 }
 
 // Whether the next sample leaves the pitch where it is; so do all later ones.
 fn steady(c: UnisonCopy) -> bool
-    ensures { λ r. ⌜ (r ≡ true → glideStep c ≡ c .pitch) ⌝ }
+    ensures { λ r. ⌜ (r ≡ true → glideStep c ≡ c .pitch) × (glideStep c ≡ c .pitch → r ≡ true) ⌝ }
 {
     same(c.pitch + (c.pitch_target - c.pitch) * c.glide, c.pitch)
 }
@@ -190,7 +190,7 @@ pub fn glide_voice(v: Voice, frames: usize, curve: &mut [f32]) -> Voice
 
 // Whether no copy moves.
 fn copies_stand(copies: [UnisonCopy; 8], count: usize) -> bool
-    ensures { λ r. ⌜ (r ≡ true → (frames : ℕ) → map (glidedOf frames) (take count copies) ≡ take count copies) ⌝ }
+    ensures { λ r. ⌜ StandAs (take count copies) r ⌝ }
 {
     let n = smaller(count, 8);
     let mut j: usize = 0;
@@ -205,7 +205,7 @@ fn copies_stand(copies: [UnisonCopy; 8], count: usize) -> bool
 
 // Whether the voice is the same later.
 pub fn stands(v: Voice) -> bool
-    ensures { λ r. ⌜ (r ≡ true → (frames : ℕ) → onSeen (withCopies (glidedOf frames)) (seen v) ≡ seen v) ⌝ }
+    ensures { λ r. ⌜ StandsAs v r ⌝ }
 {
     let copies = v.copies;
     copies_stand(copies, v.copy_count)
@@ -271,10 +271,22 @@ fn with_copies(a: Voice, b: Voice, c: Voice, d: Voice, four: Four) -> FourVoices
 
 // Four voices of one copy each `frames` samples later; their copies fill the curve, one after the other. Voices of other counts,
 // and a curve of another size, are left as they are.
-pub fn glide_voices(a: Voice, b: Voice, c: Voice, d: Voice, frames: usize, curve: &mut [f32]) -> FourVoices
+pub fn glide_voices(
+    a: Voice,
+    b: Voice,
+    c: Voice,
+    d: Voice,
+    frames: usize,
+    curve: &mut [f32],
+) -> FourVoices
     ensures { λ r. ⌜ GlidedVoices frames a b c d r (now (curve .entry)) (now (curve .exit)) ⌝ }
 {
-    if !each_is_one(a.copies_shown(), b.copies_shown(), c.copies_shown(), d.copies_shown()) {
+    if !each_is_one(
+        a.copies_shown(),
+        b.copies_shown(),
+        c.copies_shown(),
+        d.copies_shown(),
+    ) {
         return FourVoices { a, b, c, d };
     }
     if !voices::fills(frames, 4, curve.len()) {

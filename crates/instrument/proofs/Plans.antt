@@ -2,16 +2,18 @@
 use mathlib.Core.Path.{_≡_, refl, ap, sym, _∙_, fun-ext}
 use mathlib.Core.Bool.{Bool, true, false, cond}
 use mathlib.Core.List.{List, [], _∷_, map}
-use Prim.Native.Nat.{ℕ, _*_, _≤_, _^_}
+use Prim.Native.Nat.{ℕ, zero, suc, _*_, _≤_, _<_, _^_}
 use native.Mathlib.Omega.{arith}
 use native.Mathlib.Nat.{mul-le-mul}
 use borrow.Author.Tests.{leb-true, le-leb, eq-eqb, ne-eqb, eqb-true, not-false}
 use lib.Dec.{T, leb, eqb, le→leb}
 use lib.Ieee.{Float, binary32, mul, lt, inFloat}
 use lib.IntN.{pos}
-use lib.ListN.{length, length-map, length-take}
-use Rattle.lists.specs.Choose.{both, cond-true, cond-false}
+use lib.ListN.{length, getD, length-map, length-take}
+use Rattle.lists.specs.Choose.{both, chosen, cond-true, cond-false}
 use Rattle.lists.specs.All.{all}
+use Rattle.lists.specs.Count.{count}
+use Rattle.lists.specs.Perms.{distinct}
 use Rattle.float32.specs.Numbers.{zero as +0}
 use Rattle.stream.specs.declared.UnisonCopy.{UnisonCopy}
 use Rattle.stream.specs.Pitch.{bent, cutTo, glided}
@@ -21,13 +23,15 @@ use Rattle.envelope.specs.Start.{rateFits}
 use Rattle.design.proofs.Limits.{copies-most, rate-fits}
 use Rattle.model.specs.Types as M
 use Rattle.model.specs.Changes.{moved, blocked}
-use Rattle.model.specs.Formed.{handleFits, copiesFit, stageFits, framesFit, wellFormed}
-use Rattle.model.specs.Voices.{withCopies, copiesIn}
+use Rattle.model.specs.Formed.{max, handleFits, copiesFit, stageFits, framesFit, wellFormed}
+use Rattle.model.specs.Voices.{withVoice, withCopies, sounding, handles, copiesIn}
 use Rattle.model.specs.Plan.{vibratoFactor, filterFactor, tremoloGain, phaseAfter, wobbled, applied, modulatedBy, curves, opened, planOf}
 use Rattle.model.specs.Step.{noBlock, blockOpen, blockMissing, handlesSpent, refusal, lentTo, accepted, step}
 use Rattle.model.proofs.Laws.{modulated-copies}
 use Rattle.model.proofs.Refusals.{Passes, passes}
-use Rattle.voice.specs.View.{Seen}
+use Rattle.voice.specs.View.{Seen, shown}
+use Rattle.voice.proofs.Sizes.{pastEnd}
+use Rattle.voices.proofs.Table.{table-size, table-at}
 use Rattle.voices.specs.View.{seenFirst, voicesOf}
 use Rattle.voice.specs.Changes.{copyChanged, voiceChanged, onSeen}
 use Rattle.voice.specs.declared.Voice.{Voice}
@@ -69,6 +73,33 @@ copies-even next k (x ∷ l) e =
     let d = eqb-true (length (x .voice .copies)) k (both (copiesFit k (x .voice)) (stageFits (x .voice)) (c .1) .0) in
     let h = copies-even next k l (a .1) in
     omega arith
+
+well-even : (m : M.Model) → wellFormed m ≡ true → all (copiesFit (copiesOf (m .design))) (m .voices) ≡ true
+unfolding wellFormed
+well-even m e =
+    let a = both (isAccepted (m .design)) _ e in
+    let b = both (leb (length (m .voices)) (2 * max m)) _ (a .1) in
+    let c = both (leb (count sounding (m .voices)) (max m)) _ (b .1) in
+    let d = both (leb 1 (m .next)) _ (c .1) in
+    let f = both (distinct (handles (m .voices))) _ (d .1) in
+    let g = both (all (handleFits (m .next)) (m .voices)) _ (f .1) in
+    both (all (copiesFit (copiesOf (m .design))) (m .voices)) _ (g .1) .0
+
+-- and so it has after the modulation
+even-same : (f : UnisonCopy → UnisonCopy) (k : ℕ) (vs : List M.Voice) → all (copiesFit k) (map (withCopies f) vs) ≡ all (copiesFit k) vs
+unfolding withCopies withVoice
+even-same f k [] = refl
+even-same f k (v ∷ vs) = rw (length-map (v .copies) f, even-same f k vs)
+
+modulated-even : (m : M.Model) (n : ℕ) (vibrato filter sine : Float) (k : ℕ) → all (copiesFit k) (m .voices) ≡ true → all (copiesFit k) (modulatedBy m n vibrato filter sine .voices) ≡ true
+unfolding modulatedBy applied moved
+modulated-even m n vibrato filter sine k e =
+    chosen (λ (t : M.Model). all (copiesFit k) (t .voices) ≡ true) (modulated (m .design .modulation)) _ _ (λ _. even-same _ k (m .voices) ∙ e) (λ _. e)
+
+all-at : (p : M.Voice → Bool) (vs : List M.Voice) (j : ℕ) (d : M.Voice) → j < length vs → all p vs ≡ true → p (getD vs j d) ≡ true
+all-at p [] j d h e = let z : ⊥ = omega arith in absurd z
+all-at p (v ∷ vs) zero d h e = both (p v) (all p vs) e .0
+all-at p (v ∷ vs) (suc j) d h e = all-at p vs j d (omega arith) (both (p v) (all p vs) e .1)
 
 pub record Rows (s : Instrument) (rows : ℕ) : Type 0 where
   pub all : copiesIn (view s .voices) ≡ rows
@@ -204,6 +235,19 @@ module _ (s : Instrument) (n : ℕ) (vibrato filter sine : Float) (old : List Fl
 
       pub plan-room : t .«voice_count» ≤ 64
       plan-room = counts t in-room .voices64
+
+      even : all (copiesFit (copiesOf (s .design))) (voicesOf (tableOf t)) ≡ true
+      unfolding view
+      even =
+          ap (λ (w : M.Model). all (copiesFit (copiesOf (s .design))) (w .voices)) (m .next) ∙ modulated-even (view s) n vibrato filter sine _ (well-even (view s) (kept .well))
+
+      -- every voice has the design's copies
+      pub plan-even : length (t .voices) ≡ 64 → (j : ℕ) → j < t .«voice_count» → length (shown (getD (t .voices) j pastEnd) .copies) ≡ copiesOf (s .design)
+      plan-even len j h =
+          let r = plan-room in
+          let z = table-size (t .«voice_count») (t .voices) len in
+          let k = eqb-true _ _ (all-at (copiesFit (copiesOf (s .design))) (voicesOf (tableOf t)) j M.noVoice (omega arith) even) in
+          ap (λ (v : M.Voice). length (v .copies)) (sym (table-at (t .«voice_count») (t .voices) j h)) ∙ k
 
       pub plan-size : n * copiesIn (voicesOf (tableOf t)) ≡ length old
       unfolding view

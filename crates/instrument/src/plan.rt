@@ -1,9 +1,10 @@
 // Plan (the Rust's `apply_modulation`, and `glide_block` of every copy): the pitch curve of the next block.
 
 ghost use mathlib.Core.Path.{_≡_};
-ghost use mathlib.Core.Bool.{true};
+ghost use mathlib.Core.Bool.{true, _&&_};
 ghost use mathlib.Core.List.{List};
 ghost use Prim.Native.Nat.{_*_, _≤_};
+ghost use lib.Dec.{leb, eqb};
 ghost use lib.Ieee.{Float};
 ghost use lib.ListN.{length};
 ghost use Rattle.envelope.specs.Start.{rateFits};
@@ -68,6 +69,16 @@ fn wobble(m: Modulation, bend: f32, cutoff: f32) -> VoiceChange
         return VoiceChange::Copies(CopyChange::Wobble(bend, cutoff));
     }
     VoiceChange::Copies(CopyChange::Bend(bend))
+}
+
+// Whether a voice that moves goes together with the next three: all have as many copies, here one.
+fn side_by_side(left: usize, copies: usize) -> bool
+    ensures { λ r. ⌜ r ≡ (leb 4 left && eqb copies 1) ⌝ }
+{
+    if left < 4 {
+        return false;
+    }
+    copies == 1
 }
 
 impl Instrument {
@@ -152,11 +163,28 @@ impl Instrument {
         let mut i: usize = 0;
         while i < n {
             let v = self.voices[i];
-            let end = at + frames * v.copies_shown();
+            let copies = v.copies_shown();
+            let end = at + frames * copies;
             if curves::stands(v) {
                 curves::write_voice(v, frames, &mut curve[at..end]);
                 at = end;
                 i += 1;
+            } else if side_by_side(n - i, copies) {
+                let b = self.voices[i + 1];
+                let c = self.voices[i + 2];
+                let d = self.voices[i + 3];
+                let last = at + 4 * frames;
+                let four = curves::glide_voices(v, b, c, d, frames, &mut curve[at..last]);
+                let wa = four.a;
+                let wb = four.b;
+                let wc = four.c;
+                let wd = four.d;
+                self.voices[i] = wa;
+                self.voices[i + 1] = wb;
+                self.voices[i + 2] = wc;
+                self.voices[i + 3] = wd;
+                at = last;
+                i += 4;
             } else {
                 let w = curves::glide_voice(v, frames, &mut curve[at..end]);
                 self.voices[i] = w;

@@ -1,18 +1,24 @@
 use mathlib.Core.Path.{_≡_, refl, ap, sym, _∙_}
 use mathlib.Core.Logic.{⊎-elim}
-use Prim.Native.Nat.{ℕ, _+_, _-_, _*_, _≤_}
+use Prim.Native.Nat.{ℕ, _+_, _-_, _*_, _≤_, _<_}
 use native.Mathlib.Omega.{arith}
 use borrow.Author.Needs.{needs}
+use borrow.Author.Tests.{leb-true, eqb-true}
+use lib.Dec.{leb, eqb}
 use lib.ListN.{length, getD}
+use Rattle.lists.specs.Choose.{both}
+use Rattle.lists.specs.Pass.{pass-read}
 use Rattle.model.specs.Types.{Call}
+use Rattle.design.specs.Accepted.{copiesOf}
+use Rattle.voice.specs.View.{shown}
 use Rattle.voice.proofs.Sizes.{pastEnd}
 use Rattle.instrument.specs.declared.Instrument.{Instrument}
 use Rattle.instrument.specs.Calls.{refusalOf, answeredAs}
 use Rattle.instrument.specs.Plans.{blockedAs}
 use Rattle.instrument.specs.declared.Reply.the-variants.{Planned}
 use Rattle.instrument.proofs.Sizes.{voices-long}
-use Rattle.instrument.proofs.Planning.{Planning, planning-start, voice-room, voice-fits, voice-glides, voice-stays, planned-voices, planned-curve, planned-state}
-use Rattle.instrument.proofs.Plans.{ModulatedAs, modulated-on, modulated-off, plan-refused, plan-fits, plan-room, plan-size, plan-done}
+use Rattle.instrument.proofs.Planning.{Planning, planning-start, voice-room, voice-glides, voice-stays, four-room, four-glide, planned-voices, planned-curve, planned-state}
+use Rattle.instrument.proofs.Plans.{ModulatedAs, modulated-on, modulated-off, plan-refused, plan-fits, plan-room, plan-even, plan-size, plan-done}
 use Rattle.instrument.proofs.Instrument.plan.Statement.{statement}
 use Rattle.instrument.proofs.Instrument.plan.Tie as tie
 
@@ -48,7 +54,32 @@ module _ (d : tie.After-copies-shown Inv-loop μ-loop) where
   ends =
       let b = d .before .before .before in
       let j = b .before in
-      voice-room (j .if2 .self) _ _ (long j) (room j) (b .loop .inv) (d .before .before .loop-test .taken) (getD (b .loop .self .voices) (b .loop .i) pastEnd) refl (d .copies-shown .result) (d .copies-shown .ensures .1)
+      voice-room (j .if2 .self) _ _ (long j) (room j) (b .loop .inv) (d .before .before .loop-test .taken) (getD (b .loop .self .voices) (b .loop .i) pastEnd) (pass-read pastEnd (b .loop .inv .pass)) (d .copies-shown .result) (d .copies-shown .ensures .1)
+
+-- where four voices go together
+module _ (e : tie.Then4 Inv-loop μ-loop) where
+  tests : let d = e .before .before .before .before in
+      let b = d .before .before .before in
+      (b .loop .i + 4 ≤ b .before .if2 .self .«voice_count») × (d .copies-shown .result ≡ 1)
+  tests =
+      let d = e .before .before .before .before in
+      let b = d .before .before .before in
+      let left = b .before .if2 .self .«voice_count» - b .loop .i in
+      let x = both (leb 4 left) (eqb (d .copies-shown .result) 1) (sym (e .before .side-by-side .ensures) ∙ e .if4 .taken) in
+      let y : 4 ≤ left = leb-true 4 left (x .0) in
+      (omega (arith, y), eqb-true _ _ (x .1))
+
+  -- every voice has the design's copies
+  alike : let j = e .before .before .before .before .before .before .before .before in
+      (k : ℕ) → k < j .if2 .self .«voice_count» → length (shown (getD (j .if2 .self .voices) k pastEnd) .copies) ≡ copiesOf (j .before .before .before .before .before .before .before .args .t1 .design)
+  alike = let j = e .before .before .before .before .before .before .before .before in plan-even _ _ _ _ _ _ (accepted (j .before .before .before .before)) _ (modulated j) (long j)
+
+  four-ends : let b = e .before .before .before .before .before .before .before in b .loop .at + 4 * b .before .before .before .before .before .before .before .before .args .frames ≤ length (b .loop .curve)
+  four-ends =
+      let d = e .before .before .before .before in
+      let b = d .before .before .before in
+      let j = b .before in
+      four-room (j .if2 .self) _ _ (long j) (room j) (b .loop .inv) _ alike (tests .0) _ (d .copies-shown .ensures .1) (tests .1)
 
 plan-refusal-requires : tie.Need-plan-refusal-requires Inv-loop μ-loop
 plan-refusal-requires c κs = search needs
@@ -119,11 +150,118 @@ loop-again c =
     let k : b .loop .at + frames * rows - b .loop .at ≡ frames * rows = omega arith in
     let v = getD (b .loop .self .voices) (b .loop .i) pastEnd in
     let r = d .copies-shown .ensures .1 in
-    let fit = voice-fits (j .if2 .self) _ _ (long j) (room j) (b .loop .inv) (d .before .before .loop-test .taken) v refl rows r _ k in
-    voice-stays (j .if2 .self) _ _ (long j) (room j) (b .loop .inv) (d .before .before .loop-test .taken) v refl rows r _ _ _ k (n .before .stands .ensures (n .if3 .taken) frames) (g .write-voice .ensures .numbers fit) refl (rw (b .loop .inv .size) at (c .before .curve .given .1))
+    voice-stays (j .if2 .self) _ _ (long j) (room j) (b .loop .inv) (d .before .before .loop-test .taken) v (pass-read pastEnd (b .loop .inv .pass)) rows r refl _ _ _ k (n .before .stands .ensures .stays (n .if3 .taken) frames) (g .write-voice .ensures) refl (rw (b .loop .inv .size) at (c .before .curve .given .1))
+
+sub-side-by-side : tie.Need-sub-side-by-side Inv-loop μ-loop
+sub-side-by-side c = omega arith
+
+side-by-side-requires : tie.Need-side-by-side-requires Inv-loop μ-loop
+side-by-side-requires c κs = search needs
+
+add-b : tie.Need-add-b Inv-loop μ-loop
+add-b c = let e = c in let t = tests e .0 in omega (arith, t, room (e .before .before .before .before .before .before .before .before))
+
+mul-b : tie.Need-mul-b Inv-loop μ-loop
+mul-b c = let e = c in let t = tests e .0 in omega (arith, t, room (e .before .before .before .before .before .before .before .before))
+
+element-copy-out-b : tie.Need-element-copy-out-b Inv-loop μ-loop
+element-copy-out-b c = let e = c in let t = tests e .0 in omega (arith, t, room (e .before .before .before .before .before .before .before .before))
+
+add-c : tie.Need-add-c Inv-loop μ-loop
+add-c c = let e = c .before in let t = tests e .0 in omega (arith, t, room (e .before .before .before .before .before .before .before .before))
+
+mul-c : tie.Need-mul-c Inv-loop μ-loop
+mul-c c = let e = c .before in let t = tests e .0 in omega (arith, t, room (e .before .before .before .before .before .before .before .before))
+
+element-copy-out-c : tie.Need-element-copy-out-c Inv-loop μ-loop
+element-copy-out-c c = let e = c .before in let t = tests e .0 in omega (arith, t, room (e .before .before .before .before .before .before .before .before))
+
+add-d : tie.Need-add-d Inv-loop μ-loop
+add-d c = let e = c .before .before in let t = tests e .0 in omega (arith, t, room (e .before .before .before .before .before .before .before .before))
+
+mul-d : tie.Need-mul-d Inv-loop μ-loop
+mul-d c = let e = c .before .before in let t = tests e .0 in omega (arith, t, room (e .before .before .before .before .before .before .before .before))
+
+element-copy-out-d : tie.Need-element-copy-out-d Inv-loop μ-loop
+element-copy-out-d c = let e = c .before .before in let t = tests e .0 in omega (arith, t, room (e .before .before .before .before .before .before .before .before))
+
+mul-last : tie.Need-mul-last Inv-loop μ-loop
+mul-last c = let q = four-ends (c .before .before .before) in omega (arith, q)
+
+add-last : tie.Need-add-last Inv-loop μ-loop
+add-last c = let q = four-ends (c .before .before .before) in omega (arith, q)
+
+mul-glide-voices : tie.Need-mul-glide-voices Inv-loop μ-loop
+mul-glide-voices c = let q = four-ends (c .before .before .before) in omega (arith, q)
+
+sub-glide-voices : tie.Need-sub-glide-voices Inv-loop μ-loop
+sub-glide-voices c = omega arith
+
+part-glide-voices-start : tie.Need-part-glide-voices-start Inv-loop μ-loop
+part-glide-voices-start c = search needs
+
+part-glide-voices-end : tie.Need-part-glide-voices-end Inv-loop μ-loop
+part-glide-voices-end c = let q = four-ends (c .before .before .before) in omega (arith, q)
+
+glide-voices-requires : tie.Need-glide-voices-requires Inv-loop μ-loop
+glide-voices-requires c κs = search needs
+
+mul-wa : tie.Need-mul-wa Inv-loop μ-loop
+mul-wa c = let e = c .before .before .before .before .before .before .before .before .before .before .before in let t = tests e .0 in omega (arith, t, room (e .before .before .before .before .before .before .before .before))
+
+element-set-from-wa : tie.Need-element-set-from-wa Inv-loop μ-loop
+element-set-from-wa c = let e = c .before .before .before .before .before .before .before .before .before .before .before in let t = tests e .0 in omega (arith, t, room (e .before .before .before .before .before .before .before .before))
+
+add-wb : tie.Need-add-wb Inv-loop μ-loop
+add-wb c = let e = c .before .before .before .before .before .before .before .before .before .before .before in let t = tests e .0 in omega (arith, t, room (e .before .before .before .before .before .before .before .before))
+
+mul-wb : tie.Need-mul-wb Inv-loop μ-loop
+mul-wb c = let e = c .before .before .before .before .before .before .before .before .before .before .before in let t = tests e .0 in omega (arith, t, room (e .before .before .before .before .before .before .before .before))
+
+element-set-from-wb : tie.Need-element-set-from-wb Inv-loop μ-loop
+element-set-from-wb c = let e = c .before .before .before .before .before .before .before .before .before .before .before in let t = tests e .0 in omega (arith, t, room (e .before .before .before .before .before .before .before .before))
+
+add-wc : tie.Need-add-wc Inv-loop μ-loop
+add-wc c = let e = c .before .before .before .before .before .before .before .before .before .before .before in let t = tests e .0 in omega (arith, t, room (e .before .before .before .before .before .before .before .before))
+
+mul-wc : tie.Need-mul-wc Inv-loop μ-loop
+mul-wc c = let e = c .before .before .before .before .before .before .before .before .before .before .before in let t = tests e .0 in omega (arith, t, room (e .before .before .before .before .before .before .before .before))
+
+element-set-from-wc : tie.Need-element-set-from-wc Inv-loop μ-loop
+element-set-from-wc c = let e = c .before .before .before .before .before .before .before .before .before .before .before in let t = tests e .0 in omega (arith, t, room (e .before .before .before .before .before .before .before .before))
+
+add-wd : tie.Need-add-wd Inv-loop μ-loop
+add-wd c = let e = c .before .before .before .before .before .before .before .before .before .before .before in let t = tests e .0 in omega (arith, t, room (e .before .before .before .before .before .before .before .before))
+
+mul-wd : tie.Need-mul-wd Inv-loop μ-loop
+mul-wd c = let e = c .before .before .before .before .before .before .before .before .before .before .before in let t = tests e .0 in omega (arith, t, room (e .before .before .before .before .before .before .before .before))
+
+element-set-from-wd : tie.Need-element-set-from-wd Inv-loop μ-loop
+element-set-from-wd c = let e = c .before .before .before .before .before .before .before .before .before .before .before in let t = tests e .0 in omega (arith, t, room (e .before .before .before .before .before .before .before .before))
+
+add-i-2 : tie.Need-add-i-2 Inv-loop μ-loop
+add-i-2 c = let e = c .before .before .before .before .before .before .before .before .before .before .before in let t = tests e .0 in omega (arith, t, room (e .before .before .before .before .before .before .before .before))
+
+loop-less-2 : tie.Need-loop-less-2 Inv-loop μ-loop
+loop-less-2 c = let e = c .before .before .before .before .before .before .before .before .before .before .before in let t = tests e .0 in omega (arith, t, room (e .before .before .before .before .before .before .before .before))
+
+loop-again-2 : tie.Need-loop-again-2 Inv-loop μ-loop
+unfolding blockedAs
+loop-again-2 c =
+    let g = c .before .before .before .before .before .before in
+    let e = g .before .before .before .before .before in
+    let d = e .before .before .before .before in
+    let b = d .before .before .before in
+    let j = b .before in
+    let t = j .if2 .self in
+    let frames = j .before .before .before .before .before .before .before .args .frames in
+    let q : b .loop .at + 4 * frames - b .loop .at ≡ 4 * frames = omega arith in
+    let r = d .copies-shown .ensures .1 in
+    four-glide t _ _ (long j) (room j) (b .loop .inv) _ (alike e) (tests e .0) _ r (tests e .1) (g .glide-voices .result) _ _ _ _ q (g .glide-voices .ensures) refl
+    (rw (b .loop .inv .size) at (c .before .before .before .before .before .curve2 .given .1)) refl
 
 mul-glide-voice : tie.Need-mul-glide-voice Inv-loop μ-loop
-mul-glide-voice c = omega (arith, ends (c .before .before))
+mul-glide-voice c = omega (arith, ends (c .before .before .before .before))
 
 sub-glide-voice : tie.Need-sub-glide-voice Inv-loop μ-loop
 sub-glide-voice c = omega arith
@@ -132,28 +270,28 @@ part-glide-voice-start : tie.Need-part-glide-voice-start Inv-loop μ-loop
 part-glide-voice-start c = search needs
 
 part-glide-voice-end : tie.Need-part-glide-voice-end Inv-loop μ-loop
-part-glide-voice-end c = let e = ends (c .before .before) in omega (arith, e)
+part-glide-voice-end c = let e = ends (c .before .before .before .before) in omega (arith, e)
 
 glide-voice-requires : tie.Need-glide-voice-requires Inv-loop μ-loop
 glide-voice-requires c κs = search needs
 
 mul-w : tie.Need-mul-w Inv-loop μ-loop
-mul-w c = let b = c .before .before .before .before .before .before .before .before .before in omega (arith, room (b .before))
+mul-w c = omega (arith, room (c .before .before .before .before .before .before .before .before .before .before .before .before))
 
 element-set-from-w : tie.Need-element-set-from-w Inv-loop μ-loop
-element-set-from-w c = let b = c .before .before .before .before .before .before .before .before .before in omega (arith, room (b .before))
+element-set-from-w c = omega (arith, room (c .before .before .before .before .before .before .before .before .before .before .before .before))
 
-add-i-2 : tie.Need-add-i-2 Inv-loop μ-loop
-add-i-2 c = let b = c .before .before .before .before .before .before .before .before .before in omega (arith, room (b .before))
+add-i-3 : tie.Need-add-i-3 Inv-loop μ-loop
+add-i-3 c = omega (arith, room (c .before .before .before .before .before .before .before .before .before .before .before .before))
 
-loop-less-2 : tie.Need-loop-less-2 Inv-loop μ-loop
-loop-less-2 c = omega arith
+loop-less-3 : tie.Need-loop-less-3 Inv-loop μ-loop
+loop-less-3 c = omega arith
 
-loop-again-2 : tie.Need-loop-again-2 Inv-loop μ-loop
+loop-again-3 : tie.Need-loop-again-3 Inv-loop μ-loop
 unfolding blockedAs
-loop-again-2 c =
+loop-again-3 c =
     let g = c .before .before in
-    let d = g .before .before .before .before in
+    let d = g .before .before .before .before .before .before in
     let b = d .before .before .before in
     let j = b .before in
     let rows = d .copies-shown .result in
@@ -161,8 +299,7 @@ loop-again-2 c =
     let k : b .loop .at + frames * rows - b .loop .at ≡ frames * rows = omega arith in
     let v = getD (b .loop .self .voices) (b .loop .i) pastEnd in
     let r = d .copies-shown .ensures .1 in
-    let fit = voice-fits (j .if2 .self) _ _ (long j) (room j) (b .loop .inv) (d .before .before .loop-test .taken) v refl rows r _ k in
-    voice-glides (j .if2 .self) _ _ (long j) (room j) (b .loop .inv) (d .before .before .loop-test .taken) v refl rows r (g .glide-voice .result) _ _ _ _ k (g .glide-voice .ensures .voice fit) (g .glide-voice .ensures .numbers fit) refl (rw (b .loop .inv .size) at (c .before .curve2 .given .1)) refl
+    voice-glides (j .if2 .self) _ _ (long j) (room j) (b .loop .inv) (d .before .before .loop-test .taken) v (pass-read pastEnd (b .loop .inv .pass)) rows r _ _ _ _ _ k (g .glide-voice .ensures) refl (rw (b .loop .inv .size) at (c .before .curve3 .given .1)) refl
 
 answered-requires : tie.Need-answered-requires Inv-loop μ-loop
 answered-requires c κs = search needs
@@ -207,6 +344,38 @@ plan-spec =
     add-i
     loop-less
     loop-again
+    sub-side-by-side
+    side-by-side-requires
+    add-b
+    mul-b
+    element-copy-out-b
+    add-c
+    mul-c
+    element-copy-out-c
+    add-d
+    mul-d
+    element-copy-out-d
+    mul-last
+    add-last
+    mul-glide-voices
+    sub-glide-voices
+    part-glide-voices-start
+    part-glide-voices-end
+    glide-voices-requires
+    mul-wa
+    element-set-from-wa
+    add-wb
+    mul-wb
+    element-set-from-wb
+    add-wc
+    mul-wc
+    element-set-from-wc
+    add-wd
+    mul-wd
+    element-set-from-wd
+    add-i-2
+    loop-less-2
+    loop-again-2
     mul-glide-voice
     sub-glide-voice
     part-glide-voice-start
@@ -214,9 +383,9 @@ plan-spec =
     glide-voice-requires
     mul-w
     element-set-from-w
-    add-i-2
-    loop-less-2
-    loop-again-2
+    add-i-3
+    loop-less-3
+    loop-again-3
     answered-requires
     same-length
     returns-2)
