@@ -81,6 +81,15 @@ module _ (e : tie.Then4 Inv-loop μ-loop) where
       let j = b .before in
       four-room (j .if2 .self) _ _ (long j) (room j) (b .loop .inv) _ alike (tests .0) _ (d .copies-shown .ensures .1) (tests .1)
 
+-- the four are back: their places
+module _ (c : tie.After-wd Inv-loop μ-loop) where
+  abbrev way : tie.Then4 Inv-loop μ-loop
+  way = c .before .before .before .before .before .before .before .before .before .before .before
+
+  places : let b = way .before .before .before .before .before .before .before in
+      (b .loop .i + 4 ≤ b .before .if2 .self .«voice_count») × (b .before .if2 .self .«voice_count» ≤ 64)
+  places = (tests way .0, room (way .before .before .before .before .before .before .before .before))
+
 plan-refusal-requires : tie.Need-plan-refusal-requires Inv-loop μ-loop
 plan-refusal-requires c κs = search needs
 
@@ -207,49 +216,49 @@ glide-voices-requires : tie.Need-glide-voices-requires Inv-loop μ-loop
 glide-voices-requires c κs = search needs
 
 mul-wa : tie.Need-mul-wa Inv-loop μ-loop
-mul-wa c = let e = c .before .before .before .before .before .before .before .before .before .before .before in let t = tests e .0 in omega (arith, t, room (e .before .before .before .before .before .before .before .before))
+mul-wa c = let p = places c in omega (arith, p .0, p .1)
 
 element-set-from-wa : tie.Need-element-set-from-wa Inv-loop μ-loop
-element-set-from-wa c = let e = c .before .before .before .before .before .before .before .before .before .before .before in let t = tests e .0 in omega (arith, t, room (e .before .before .before .before .before .before .before .before))
+element-set-from-wa c = let p = places c in omega (arith, p .0, p .1)
 
 add-wb : tie.Need-add-wb Inv-loop μ-loop
-add-wb c = let e = c .before .before .before .before .before .before .before .before .before .before .before in let t = tests e .0 in omega (arith, t, room (e .before .before .before .before .before .before .before .before))
+add-wb c = let p = places c in omega (arith, p .0, p .1)
 
 mul-wb : tie.Need-mul-wb Inv-loop μ-loop
-mul-wb c = let e = c .before .before .before .before .before .before .before .before .before .before .before in let t = tests e .0 in omega (arith, t, room (e .before .before .before .before .before .before .before .before))
+mul-wb c = let p = places c in omega (arith, p .0, p .1)
 
 element-set-from-wb : tie.Need-element-set-from-wb Inv-loop μ-loop
-element-set-from-wb c = let e = c .before .before .before .before .before .before .before .before .before .before .before in let t = tests e .0 in omega (arith, t, room (e .before .before .before .before .before .before .before .before))
+element-set-from-wb c = let p = places c in omega (arith, p .0, p .1)
 
 add-wc : tie.Need-add-wc Inv-loop μ-loop
-add-wc c = let e = c .before .before .before .before .before .before .before .before .before .before .before in let t = tests e .0 in omega (arith, t, room (e .before .before .before .before .before .before .before .before))
+add-wc c = let p = places c in omega (arith, p .0, p .1)
 
 mul-wc : tie.Need-mul-wc Inv-loop μ-loop
-mul-wc c = let e = c .before .before .before .before .before .before .before .before .before .before .before in let t = tests e .0 in omega (arith, t, room (e .before .before .before .before .before .before .before .before))
+mul-wc c = let p = places c in omega (arith, p .0, p .1)
 
 element-set-from-wc : tie.Need-element-set-from-wc Inv-loop μ-loop
-element-set-from-wc c = let e = c .before .before .before .before .before .before .before .before .before .before .before in let t = tests e .0 in omega (arith, t, room (e .before .before .before .before .before .before .before .before))
+element-set-from-wc c = let p = places c in omega (arith, p .0, p .1)
 
 add-wd : tie.Need-add-wd Inv-loop μ-loop
-add-wd c = let e = c .before .before .before .before .before .before .before .before .before .before .before in let t = tests e .0 in omega (arith, t, room (e .before .before .before .before .before .before .before .before))
+add-wd c = let p = places c in omega (arith, p .0, p .1)
 
 mul-wd : tie.Need-mul-wd Inv-loop μ-loop
-mul-wd c = let e = c .before .before .before .before .before .before .before .before .before .before .before in let t = tests e .0 in omega (arith, t, room (e .before .before .before .before .before .before .before .before))
+mul-wd c = let p = places c in omega (arith, p .0, p .1)
 
 element-set-from-wd : tie.Need-element-set-from-wd Inv-loop μ-loop
-element-set-from-wd c = let e = c .before .before .before .before .before .before .before .before .before .before .before in let t = tests e .0 in omega (arith, t, room (e .before .before .before .before .before .before .before .before))
+element-set-from-wd c = let p = places c in omega (arith, p .0, p .1)
 
 add-i-2 : tie.Need-add-i-2 Inv-loop μ-loop
-add-i-2 c = let e = c .before .before .before .before .before .before .before .before .before .before .before in let t = tests e .0 in omega (arith, t, room (e .before .before .before .before .before .before .before .before))
+add-i-2 c = let p = places c in omega (arith, p .0, p .1)
 
 loop-less-2 : tie.Need-loop-less-2 Inv-loop μ-loop
-loop-less-2 c = let e = c .before .before .before .before .before .before .before .before .before .before .before in let t = tests e .0 in omega (arith, t, room (e .before .before .before .before .before .before .before .before))
+loop-less-2 c = let p = places c in omega (arith, p .0, p .1)
 
 loop-again-2 : tie.Need-loop-again-2 Inv-loop μ-loop
 unfolding blockedAs
 loop-again-2 c =
     let g = c .before .before .before .before .before .before in
-    let e = g .before .before .before .before .before in
+    let e = way c in
     let d = e .before .before .before .before in
     let b = d .before .before .before in
     let j = b .before in
