@@ -1,20 +1,18 @@
 -- What a glide over one part of the curve makes of the whole.
 use mathlib.Core.Path.{_≡_, refl, ap, sym, _∙_}
+use mathlib.Core.Bool.{Bool, true, false}
 use mathlib.Core.List.{List, [], _∷_, _++_, flatMap}
 use Prim.Native.Nat.{ℕ, zero, suc, _+_, _*_, _≤_, _<_, min}
 use native.Mathlib.Nat.{mul-zero, mul-suc}
 use native.Mathlib.Omega.{arith}
+use borrow.Author.Tests.{eq-eqb, eqb-true}
+use lib.Dec.{eqb}
 use lib.Ieee.{Float}
 use lib.ListN.{length, take, drop, getD, length-append}
+use Rattle.lists.specs.Choose.{clash}
 use Rattle.lists.specs.Parts.{part-size, part-front, flat-more}
 use Rattle.stream.specs.declared.UnisonCopy.{UnisonCopy}
 use Rattle.stream.specs.Pitch.{glided, curve, stepped, GlidedOver}
-use Rattle.model.specs.Types as model
-use Rattle.model.specs.Plan.{curves}
-use Rattle.voice.specs.declared.Voice.{Voice}
-use Rattle.voice.specs.View.{shown}
-use Rattle.voice.proofs.Sizes.{pastEnd}
-use Rattle.voices.proofs.Table.{table, in-table, read-here}
 
 pub curve-length : (n : ℕ) (c : UnisonCopy) → length (curve n c) ≡ n
 unfolding curve
@@ -47,16 +45,13 @@ curves-length frames (c ∷ cs) =
     let m = mul-suc frames (length cs) in
     omega (arith, a, h, l, m)
 
--- one voice's part: v is the voice that the pass reads at i
-module _ (n : ℕ) (vs : List Voice) (v : Voice) (i frames : ℕ) (len : length vs ≡ 64) (h : i < min n 64) (read : v ≡ getD vs i pastEnd) where
-  pub voice-writes : (at k rows : ℕ) (xs ys : List Float) → rows ≡ length (shown v .copies) → k ≡ frames * rows → at + frames * rows ≤ length xs
-      → ys ≡ flatMap (curve frames) (shown v .copies) → take at xs ≡ curves frames (take i (table n vs))
-      → take (at + frames * rows) (take at xs ++ (ys ++ drop k (drop at xs))) ≡ curves frames (take (i + 1) (table n vs))
-  unfolding curves
-  voice-writes at k rows xs ys r e l f w =
-      let size : length (flatMap (curve frames) (shown v .copies)) ≡ frames * rows = curves-length frames (shown v .copies) ∙ ap (_*_ frames) (sym r) in
-      let g : model.Voice → List Float = λ (w : model.Voice). flatMap (curve frames) (w .copies) in
-      wider at k (frames * rows) xs ys (flatMap (curve frames) (shown v .copies)) e l f size
-      ∙ ap (λ (z : List Float). z ++ flatMap (curve frames) (shown v .copies)) w
-      ∙ ap (λ (u : model.Voice). flatMap g (take i (table n vs)) ++ g u) (sym (read-here n vs v i len h read))
-      ∙ sym (flat-more g (table n vs) i model.noVoice (in-table n vs v i len h read))
+-- the code's test of the size, on the copies that count
+module _ (b : Bool) (frames k rows len : ℕ) (e : b ≡ eqb (frames * k) len) (f : k ≡ rows) where
+  told : eqb (frames * rows) len ≡ b
+  told = rw (e, f)
+
+  pub fits : b ≡ true → frames * rows ≡ len
+  fits t = eqb-true _ _ (told ∙ t)
+
+  pub misfits : b ≡ false → frames * rows ≡ len → ⊥
+  misfits t h = clash _ (eq-eqb _ _ h) (told ∙ t)

@@ -3,9 +3,11 @@ use mathlib.Core.Path.{_≡_, refl, ap, sym, _∙_}
 use mathlib.Core.List.{List, [], _∷_, _++_, map, map-append}
 use Prim.Native.Nat.{ℕ, zero, suc, _+_, _<_}
 use native.Mathlib.Numerals.{add-one}
+use native.Mathlib.Omega.{arith}
 use lib.Ieee.{Float}
 use lib.ListN.{length, take, set, getD, replicate}
 use lib.Seq.{take-suc-set}
+use Rattle.lists.specs.Parts.{head-same, tail-same}
 use Rattle.lists.specs.Prefix.{take-more}
 use Rattle.stream.specs.declared.UnisonCopy.{UnisonCopy}
 use Rattle.stream.specs.Pitch.{pitched, glideStep, stepped, heard, glided, curve, GlidedOver}
@@ -45,3 +47,10 @@ pub stands-more : (n : ℕ) (xs : List UnisonCopy) (j : ℕ) (d : UnisonCopy) �
 stands-more n xs j d h e p =
     let c = getD xs j d in
     rw (take-more xs j d h) (map-append (glided n) (take j xs) (c ∷ []) ∙ ap (λ (l : List UnisonCopy). l ++ (glided n c ∷ [])) p ∙ ap (λ (x : UnisonCopy). take j xs ++ (x ∷ [])) (stays-glided n c (stays c e)))
+
+-- where no copy moves in one sample, none would
+pub stood : (xs : List UnisonCopy) (j : ℕ) (d : UnisonCopy) → j < length xs → map (glided 1) xs ≡ xs → glideStep (getD xs j d) ≡ getD xs j d .pitch
+unfolding glided stepped pitched
+stood [] j d h e = let z : ⊥ = omega arith in absurd z
+stood (x ∷ xs) zero d h e = ap (λ (c : UnisonCopy). c .pitch) (head-same e)
+stood (x ∷ xs) (suc j) d h e = stood xs j d (omega arith) (tail-same e)

@@ -1,16 +1,16 @@
-// Plan's pass over the table: each copy writes its pitch numbers (the Rust's `glide_block`, voice by voice).
+// Plan's glide of a voice: each copy writes its pitch numbers (the Rust's `glide_block`, copy by copy).
 
 ghost use mathlib.Core.Path.{_≡_};
-ghost use mathlib.Core.Bool.{true, false};
+ghost use mathlib.Core.Bool.{true, false, _&&_};
 ghost use mathlib.Core.List.{map, flatMap};
 ghost use Prim.Native.Nat.{ℕ, _+_, _*_, _≤_, min};
+ghost use lib.Dec.{eqb};
 ghost use lib.ListN.{length, take, replicate};
 ghost use Rattle.stream.specs.Pitch.{pitched, glideStep, glided as glidedOf, curve as curveOf, GlidedOver};
-ghost use Rattle.model.specs.Voices.{withCopies, copiesIn};
+ghost use Rattle.model.specs.Voices.{withCopies};
 ghost use Rattle.voice.specs.View.{shown, seen};
 ghost use Rattle.voice.specs.Changes.{onSeen};
-ghost use Rattle.voices.specs.View.{seenFirst, voicesOf};
-ghost use Rattle.curves.specs.Glides.{pitchedFour, FourGlided, GlidedTable, GlidedAll};
+ghost use Rattle.curves.specs.Glides.{pitchedFour, FourGlided, StandAs, StandsAs, GlidedVoice, WrittenVoice, OneEach, FourPut, GlidedVoices};
 use stream::UnisonCopy;
 use voice::Voice;
 
@@ -22,14 +22,14 @@ fn smaller(a: usize, b: usize) -> usize
 
 // Whether two floats are the same. A comparison would take the two zeros for one.
 fn same(a: f32, b: f32) -> bool
-    ensures { λ r. ⌜ (r ≡ true → a ≡ b) ⌝ }
+    ensures { λ r. ⌜ (r ≡ true → a ≡ b) × (a ≡ b → r ≡ true) ⌝ }
 {
     float32::to_bits(a) == float32::to_bits(b)
 }
 
 // Whether the next sample leaves the pitch where it is; so do all later ones.
 fn steady(c: UnisonCopy) -> bool
-    ensures { λ r. ⌜ (r ≡ true → glideStep c ≡ c .pitch) ⌝ }
+    ensures { λ r. ⌜ (r ≡ true → glideStep c ≡ c .pitch) × (glideStep c ≡ c .pitch → r ≡ true) ⌝ }
 {
     same(c.pitch + (c.pitch_target - c.pitch) * c.glide, c.pitch)
 }
@@ -174,11 +174,13 @@ fn glide_copies(
     cs
 }
 
-// The voice `frames` samples later; its copies fill the curve, one after the other.
-fn glide_voice(v: Voice, frames: usize, curve: &mut [f32]) -> Voice
-    requires { ⌜ frames * length (shown v .copies) ≡ length (now curve) ⌝ }
-    ensures { λ r. ⌜ (seen r ≡ onSeen (withCopies (glidedOf frames)) (seen v)) × (now (curve .exit) ≡ flatMap (curveOf frames) (shown v .copies)) ⌝ }
+// The voice `frames` samples later; its copies fill the curve, one after the other. A curve of another size is left as it is.
+pub fn glide_voice(v: Voice, frames: usize, curve: &mut [f32]) -> Voice
+    ensures { λ r. ⌜ GlidedVoice frames v r (now (curve .entry)) (now (curve .exit)) ⌝ }
 {
+    if !voices::fills(frames, v.copies_shown(), curve.len()) {
+        return v;
+    }
     let copies = v.copies;
     let next = glide_copies(copies, v.copy_count, frames, curve);
     let mut w = v;
@@ -188,7 +190,7 @@ fn glide_voice(v: Voice, frames: usize, curve: &mut [f32]) -> Voice
 
 // Whether no copy moves.
 fn copies_stand(copies: [UnisonCopy; 8], count: usize) -> bool
-    ensures { λ r. ⌜ (r ≡ true → (frames : ℕ) → map (glidedOf frames) (take count copies) ≡ take count copies) ⌝ }
+    ensures { λ r. ⌜ StandAs (take count copies) r ⌝ }
 {
     let n = smaller(count, 8);
     let mut j: usize = 0;
@@ -202,52 +204,98 @@ fn copies_stand(copies: [UnisonCopy; 8], count: usize) -> bool
 }
 
 // Whether the voice is the same later.
-fn stands(v: Voice) -> bool
-    ensures { λ r. ⌜ (r ≡ true → (frames : ℕ) → onSeen (withCopies (glidedOf frames)) (seen v) ≡ seen v) ⌝ }
+pub fn stands(v: Voice) -> bool
+    ensures { λ r. ⌜ StandsAs v r ⌝ }
 {
     let copies = v.copies;
     copies_stand(copies, v.copy_count)
 }
 
-// The numbers of a voice that stands: it need not be put back.
-fn write_voice(v: Voice, frames: usize, curve: &mut [f32])
-    requires { ⌜ frames * length (shown v .copies) ≡ length (now curve) ⌝ }
-    ensures { λ _. ⌜ now (curve .exit) ≡ flatMap (curveOf frames) (shown v .copies) ⌝ }
+// The numbers of a voice that stands: it need not be put back. A curve of another size is left as it is.
+pub fn write_voice(v: Voice, frames: usize, curve: &mut [f32])
+    ensures { λ _. ⌜ WrittenVoice frames v (now (curve .entry)) (now (curve .exit)) ⌝ }
 {
-    let copies = v.copies;
-    glide_copies(copies, v.copy_count, frames, curve);
+    if voices::fills(frames, v.copies_shown(), curve.len()) {
+        let copies = v.copies;
+        glide_copies(copies, v.copy_count, frames, curve);
+    }
 }
 
-fn glide_table(vs: [Voice; 64], n: usize, frames: usize, curve: &mut [f32]) -> [Voice; 64]
-    requires { ⌜ frames * copiesIn (voicesOf (seenFirst n vs)) ≡ length (now curve) ⌝ }
-    ensures { λ r. ⌜ GlidedTable frames (seenFirst n vs) (seenFirst n r) (now (curve .exit)) ⌝ }
-{
-    let m = smaller(n, 64);
-    let mut ws = vs;
-    let mut at: usize = 0;
-    let mut i: usize = 0;
-    while i < m {
-        let v = ws[i];
-        let end = at + frames * v.copies_shown();
-        if stands(v) {
-            write_voice(v, frames, &mut curve[at..end]);
-            at = end;
-            i += 1;
-        } else {
-            ws[i] = glide_voice(v, frames, &mut curve[at..end]);
-            at = end;
-            i += 1;
-        }
-    }
-    ws
+// Four voices that glide side by side.
+pub struct FourVoices {
+    pub a: Voice,
+    pub b: Voice,
+    pub c: Voice,
+    pub d: Voice,
 }
 
-// The table `frames` samples later; voice by voice the copies fill the curve. A curve of another size is left as it is.
-pub fn glide_all(vs: [Voice; 64], n: usize, frames: usize, curve: &mut [f32]) -> [Voice; 64]
-    ensures { λ r. ⌜ GlidedAll n frames vs r (now (curve .entry)) (now (curve .exit)) ⌝ }
+fn each_is_one(a: usize, b: usize, c: usize, d: usize) -> bool
+    ensures { λ r. ⌜ r ≡ (eqb a 1 && (eqb b 1 && (eqb c 1 && eqb d 1))) ⌝ }
 {
-    if !voices::fills(frames, voices::copies_in(vs, n), curve.len()) {
-        return vs;
+    if a != 1 {
+        return false;
     }
-    glide_table(vs, n, frames, curve)
+    if b != 1 {
+        return false;
+    }
+    if c != 1 {
+        return false;
+    }
+    d == 1
+}
+
+// A voice of one copy, with another in its place.
+fn with_copy(mut v: Voice, copy: UnisonCopy) -> Voice
+    requires { ⌜ length (shown v .copies) ≡ 1 ⌝ }
+    ensures { λ r. ⌜ seen r ≡ onSeen (withCopies (λ _. copy)) (seen v) ⌝ }
+{
+    v.copies[0] = copy;
+    v
+}
+
+fn with_copies(a: Voice, b: Voice, c: Voice, d: Voice, four: Four) -> FourVoices
+    requires { ⌜ OneEach a b c d ⌝ }
+    ensures { λ r. ⌜ FourPut a b c d four r ⌝ }
+{
+    let ua = four.a;
+    let ub = four.b;
+    let uc = four.c;
+    let ud = four.d;
+    FourVoices {
+        a: with_copy(a, ua),
+        b: with_copy(b, ub),
+        c: with_copy(c, uc),
+        d: with_copy(d, ud),
+    }
+}
+
+// Four voices of one copy each `frames` samples later; their copies fill the curve, one after the other. Voices of other counts,
+// and a curve of another size, are left as they are.
+pub fn glide_voices(
+    a: Voice,
+    b: Voice,
+    c: Voice,
+    d: Voice,
+    frames: usize,
+    curve: &mut [f32],
+) -> FourVoices
+    ensures { λ r. ⌜ GlidedVoices frames a b c d r (now (curve .entry)) (now (curve .exit)) ⌝ }
+{
+    if !each_is_one(
+        a.copies_shown(),
+        b.copies_shown(),
+        c.copies_shown(),
+        d.copies_shown(),
+    ) {
+        return FourVoices { a, b, c, d };
+    }
+    if !voices::fills(frames, 4, curve.len()) {
+        return FourVoices { a, b, c, d };
+    }
+    let ua = a.copies[0];
+    let ub = b.copies[0];
+    let uc = c.copies[0];
+    let ud = d.copies[0];
+    let four = glide_four(ua, ub, uc, ud, frames, 0, curve);
+    with_copies(a, b, c, d, four)
 }

@@ -9,5 +9,6 @@ pub mod Starts
 pub mod Queries
 pub mod Offs
 pub mod Ons
+pub mod Planning
 pub mod Plans
 pub mod Mixes

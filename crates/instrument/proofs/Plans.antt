@@ -2,41 +2,45 @@
 use mathlib.Core.Path.{_≡_, refl, ap, sym, _∙_, fun-ext}
 use mathlib.Core.Bool.{Bool, true, false, cond}
 use mathlib.Core.List.{List, [], _∷_, map}
-use Prim.Native.Nat.{ℕ, _*_, _≤_, _^_}
+use Prim.Native.Nat.{ℕ, zero, suc, _*_, _≤_, _<_, _^_}
 use native.Mathlib.Omega.{arith}
 use native.Mathlib.Nat.{mul-le-mul}
 use borrow.Author.Tests.{leb-true, le-leb, eq-eqb, ne-eqb, eqb-true, not-false}
 use lib.Dec.{T, leb, eqb, le→leb}
 use lib.Ieee.{Float, binary32, mul, lt, inFloat}
 use lib.IntN.{pos}
-use lib.ListN.{length, length-map, length-take}
-use Rattle.lists.specs.Choose.{both, cond-true, cond-false}
+use lib.ListN.{length, getD, length-map, length-take}
+use Rattle.lists.specs.Choose.{both, chosen, cond-true, cond-false}
 use Rattle.lists.specs.All.{all}
+use Rattle.lists.specs.Count.{count}
+use Rattle.lists.specs.Perms.{distinct}
 use Rattle.float32.specs.Numbers.{zero as +0}
 use Rattle.stream.specs.declared.UnisonCopy.{UnisonCopy}
-use Rattle.stream.specs.Pitch.{bent, cutTo}
+use Rattle.stream.specs.Pitch.{bent, cutTo, glided}
 use Rattle.design.specs.declared.InstrumentDesign.{InstrumentDesign}
 use Rattle.design.specs.Accepted.{isAccepted, modulated, copiesOf}
-use Rattle.design.proofs.Limits.{copies-most}
+use Rattle.envelope.specs.Start.{rateFits}
+use Rattle.design.proofs.Limits.{copies-most, rate-fits}
 use Rattle.model.specs.Types as M
 use Rattle.model.specs.Changes.{moved, blocked}
-use Rattle.model.specs.Formed.{handleFits, copiesFit, stageFits, framesFit, wellFormed}
-use Rattle.model.specs.Voices.{withCopies, copiesIn}
-use Rattle.model.specs.Plan.{vibratoFactor, filterFactor, tremoloGain, phaseAfter, wobbled, applied, modulatedBy, opened, planOf}
+use Rattle.model.specs.Formed.{max, handleFits, copiesFit, stageFits, framesFit, wellFormed}
+use Rattle.model.specs.Voices.{withVoice, withCopies, sounding, handles, copiesIn}
+use Rattle.model.specs.Plan.{vibratoFactor, filterFactor, tremoloGain, phaseAfter, wobbled, applied, modulatedBy, curves, opened, planOf}
 use Rattle.model.specs.Step.{noBlock, blockOpen, blockMissing, handlesSpent, refusal, lentTo, accepted, step}
 use Rattle.model.proofs.Laws.{modulated-copies}
 use Rattle.model.proofs.Refusals.{Passes, passes}
-use Rattle.voice.specs.View.{Seen}
+use Rattle.voice.specs.View.{Seen, shown}
+use Rattle.voice.proofs.Sizes.{pastEnd}
+use Rattle.voices.proofs.Table.{table-size, table-at}
 use Rattle.voices.specs.View.{seenFirst, voicesOf}
 use Rattle.voice.specs.Changes.{copyChanged, voiceChanged, onSeen}
-use Rattle.curves.specs.Glides.{GlidedTable}
 use Rattle.voice.specs.declared.Voice.{Voice}
 use Rattle.voice.specs.declared.CopyChange.the-variants.{Bend, Wobble}
 use Rattle.voice.specs.declared.VoiceChange.{VoiceChange}
 use Rattle.instrument.specs.View.{view, counted, formed}
 use Rattle.formed.specs.Check.{voiceFits}
 use Rattle.instrument.specs.Calls.{refusalOf, lentOf, answeredAs, refusedAs, barredBy}
-use Rattle.instrument.specs.Plans.{PlannedAs, stepOf, phaseOn, wobbleOf, movedAs, blockedAs, StandsFor, ModulatedAs, OpenedAs}
+use Rattle.instrument.specs.Plans.{PlannedAs, stepOf, phaseOn, wobbleOf, movedAs, blockedAs, StandsFor}
 use Rattle.instrument.specs.declared.Instrument.{Instrument}
 use Rattle.instrument.specs.declared.Outcome.{Outcome}
 use Rattle.instrument.specs.declared.Reply.the-variants.{Planned}
@@ -69,6 +73,33 @@ copies-even next k (x ∷ l) e =
     let d = eqb-true (length (x .voice .copies)) k (both (copiesFit k (x .voice)) (stageFits (x .voice)) (c .1) .0) in
     let h = copies-even next k l (a .1) in
     omega arith
+
+well-even : (m : M.Model) → wellFormed m ≡ true → all (copiesFit (copiesOf (m .design))) (m .voices) ≡ true
+unfolding wellFormed
+well-even m e =
+    let a = both (isAccepted (m .design)) _ e in
+    let b = both (leb (length (m .voices)) (2 * max m)) _ (a .1) in
+    let c = both (leb (count sounding (m .voices)) (max m)) _ (b .1) in
+    let d = both (leb 1 (m .next)) _ (c .1) in
+    let f = both (distinct (handles (m .voices))) _ (d .1) in
+    let g = both (all (handleFits (m .next)) (m .voices)) _ (f .1) in
+    both (all (copiesFit (copiesOf (m .design))) (m .voices)) _ (g .1) .0
+
+-- and so it has after the modulation
+even-same : (f : UnisonCopy → UnisonCopy) (k : ℕ) (vs : List M.Voice) → all (copiesFit k) (map (withCopies f) vs) ≡ all (copiesFit k) vs
+unfolding withCopies withVoice
+even-same f k [] = refl
+even-same f k (v ∷ vs) = rw (length-map (v .copies) f, even-same f k vs)
+
+modulated-even : (m : M.Model) (n : ℕ) (vibrato filter sine : Float) (k : ℕ) → all (copiesFit k) (m .voices) ≡ true → all (copiesFit k) (modulatedBy m n vibrato filter sine .voices) ≡ true
+unfolding modulatedBy applied moved
+modulated-even m n vibrato filter sine k e =
+    chosen (λ (t : M.Model). all (copiesFit k) (t .voices) ≡ true) (modulated (m .design .modulation)) _ _ (λ _. even-same _ k (m .voices) ∙ e) (λ _. e)
+
+all-at : (p : M.Voice → Bool) (vs : List M.Voice) (j : ℕ) (d : M.Voice) → j < length vs → all p vs ≡ true → p (getD vs j d) ≡ true
+all-at p [] j d h e = let z : ⊥ = omega arith in absurd z
+all-at p (v ∷ vs) zero d h e = both (p v) (all p vs) e .0
+all-at p (v ∷ vs) (suc j) d h e = all-at p vs j d (omega arith) (both (p v) (all p vs) e .1)
 
 pub record Rows (s : Instrument) (rows : ℕ) : Type 0 where
   pub all : copiesIn (view s .voices) ≡ rows
@@ -150,6 +181,10 @@ module _ (s : Instrument) (g : M.Voice → M.Voice) (ws : List Voice) (e : seenF
     next = ap (λ (vs : List M.Voice). blocked (view s) vs n) (mapped-voices s g ws e);
   }
 
+-- the state after the modulation
+abbrev pub ModulatedAs : Instrument → ℕ → Float → Float → Float → Instrument → Type 0
+ModulatedAs s n vibrato filter sine r = StandsFor s (modulatedBy (view s) n vibrato filter sine) r
+
 -- the change of every copy is the definition's
 wobble-is : (s : Instrument) (v f : Float) → voiceChanged (wobbleOf (s .design .modulation) (mul binary32 (s .bend) v) (mul binary32 (s .brightness) f)) ≡ withCopies (wobbled (view s) v f)
 unfolding wobbleOf wobbled view
@@ -180,10 +215,6 @@ module _ (s : Instrument) (n : ℕ) (vibrato filter sine : Float) where
   unfolding modulatedBy view
   modulated-off e = record { inRoom = λ k. k; next = sym (cond-false _ _ _ e) }
 
-pub opens : (s r : Instrument) (n : ℕ) (xs : List Float) (ws : List Voice) → GlidedTable n (tableOf s) (seenFirst (s .«voice_count») ws) xs → r ≡ blockedAs s ws (s .«voice_count») n → OpenedAs s n xs r
-unfolding opened view
-opens s r n xs ws g q = rw q (record { state = blocked-stands s _ ws (g .voices) n; curve = g .curve })
-
 -- ---- the call
 
 module _ (s : Instrument) (n : ℕ) (vibrato filter sine : Float) (old : List Float) where
@@ -194,22 +225,44 @@ module _ (s : Instrument) (n : ℕ) (vibrato filter sine : Float) (old : List Fl
     kept : Passes (view s) (M.Call.plan n vibrato filter sine old)
     kept = passes (view s) _ (refusal-in s _ (counted-of s _ e) ∙ e)
 
-    pub plan-fits : (isAccepted (s .design) ≡ true) × (framesFit (s .design) n ≡ true)
+    pub plan-fits : (n ≤ 1024) × (rateFits (s .design .«sample_rate») ≡ true)
     unfolding wellFormed view
-    plan-fits = (both (isAccepted (s .design)) _ (kept .well) .0, not-false _ (kept .frames))
+    plan-fits = (frames-most _ _ (not-false _ (kept .frames)), rate-fits _ (both (isAccepted (s .design)) _ (kept .well) .0))
 
     module _ (t : Instrument) (m : ModulatedAs s n vibrato filter sine t) where
-      pub plan-size : n * copiesIn (view t .voices) ≡ length old
-      plan-size = rw (m .next, modulated-copies (view s) n vibrato filter sine) (sym (eqb-true _ _ (not-false _ (kept .lengths))))
+      in-room : counted t ≡ true
+      in-room = m .inRoom (counted-of s _ e)
 
-      pub plan-done : (u : Instrument) (new : List Float) (r : Outcome) → OpenedAs t n new u → r ≡ answeredAs Planned u → PlannedAs s n vibrato filter sine old new r
-      unfolding planOf opened
-      plan-done u new r o q =
+      pub plan-room : t .«voice_count» ≤ 64
+      plan-room = counts t in-room .voices64
+
+      even : all (copiesFit (copiesOf (s .design))) (voicesOf (tableOf t)) ≡ true
+      unfolding view
+      even =
+          ap (λ (w : M.Model). all (copiesFit (copiesOf (s .design))) (w .voices)) (m .next) ∙ modulated-even (view s) n vibrato filter sine _ (well-even (view s) (kept .well))
+
+      -- every voice has the design's copies
+      pub plan-even : length (t .voices) ≡ 64 → (j : ℕ) → j < t .«voice_count» → length (shown (getD (t .voices) j pastEnd) .copies) ≡ copiesOf (s .design)
+      plan-even len j h =
+          let r = plan-room in
+          let z = table-size (t .«voice_count») (t .voices) len in
+          let k = eqb-true _ _ (all-at (copiesFit (copiesOf (s .design))) (voicesOf (tableOf t)) j M.noVoice (omega arith) even) in
+          ap (λ (v : M.Voice). length (v .copies)) (sym (table-at (t .«voice_count») (t .voices) j h)) ∙ k
+
+      pub plan-size : n * copiesIn (voicesOf (tableOf t)) ≡ length old
+      unfolding view
+      plan-size =
+          let q : copiesIn (voicesOf (tableOf t)) ≡ copiesIn (view s .voices) = ap (λ (w : M.Model). copiesIn (w .voices)) (m .next) ∙ modulated-copies (view s) n vibrato filter sine in
+          ap (_*_ n) q ∙ sym (eqb-true _ _ (not-false _ (kept .lengths)))
+
+      pub plan-done : (ws : List Voice) (new : List Float) (r : Outcome) → seenFirst (t .«voice_count») ws ≡ map (onSeen (withCopies (glided n))) (tableOf t) → new ≡ curves n (voicesOf (tableOf t))
+          → r ≡ answeredAs Planned (blockedAs t ws (t .«voice_count») n) → PlannedAs s n vibrato filter sine old new r
+      unfolding planOf opened view
+      plan-done ws new r glides fills q =
+          let o = blocked-stands t _ ws glides n in
           let same = ap (λ (w : M.Model). opened w n) (m .next) in
           rw q
           (record {
-            call =
-                accepted-call s _ (answeredAs Planned u) e
-                (record { reply = refl; inRoom = o .state .inRoom (m .inRoom (counted-of s _ e)); next = o .state .next ∙ ap (λ (w : M.Outcome). w .model) same });
-            lent = o .curve ∙ ap (λ (w : M.Outcome). w .lent) same ∙ accepted-lent s (M.Call.plan n vibrato filter sine old) e;
+            call = accepted-call s _ (answeredAs Planned (blockedAs t ws (t .«voice_count») n)) e (record { reply = refl; inRoom = o .inRoom in-room; next = o .next ∙ ap (λ (w : M.Outcome). w .model) same });
+            lent = fills ∙ ap (λ (w : M.Outcome). w .lent) same ∙ accepted-lent s (M.Call.plan n vibrato filter sine old) e;
           })

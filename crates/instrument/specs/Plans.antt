@@ -8,7 +8,6 @@ use Rattle.float32.specs.Numbers.{zero as +0, fractOf}
 use Rattle.stream.specs.Copies.{whole}
 use Rattle.design.specs.declared.Modulation.{Modulation}
 use Rattle.model.specs.Types as model
-use Rattle.model.specs.Plan.{modulatedBy, opened}
 use Rattle.voice.specs.declared.Voice.{Voice}
 use Rattle.voice.specs.declared.CopyChange.the-variants.{Bend, Wobble}
 use Rattle.voice.specs.declared.VoiceChange.{VoiceChange}
@@ -79,11 +78,3 @@ blockedAs s vs count frames = record {
 pub record StandsFor (s : Instrument) (m : model.Model) (r : Instrument) : Type 0 where
   pub inRoom : counted s ≡ true → counted r ≡ true
   pub next : view r ≡ m
-
--- the state after the modulation, and with the block open, the latter with the curve
-abbrev pub ModulatedAs : Instrument → ℕ → Float → Float → Float → Instrument → Type 0
-ModulatedAs s n vibrato filter sine r = StandsFor s (modulatedBy (view s) n vibrato filter sine) r
-
-pub record OpenedAs (s : Instrument) (n : ℕ) (numbers : List Float) (r : Instrument) : Type 0 where
-  pub state : StandsFor s (opened (view s) n .model) r
-  pub curve : numbers ≡ opened (view s) n .lent

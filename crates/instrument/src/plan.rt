@@ -1,20 +1,18 @@
 // Plan (the Rust's `apply_modulation`, and `glide_block` of every copy): the pitch curve of the next block.
 
 ghost use mathlib.Core.Path.{_≡_};
-ghost use mathlib.Core.Bool.{true};
+ghost use mathlib.Core.Bool.{true, _&&_};
 ghost use mathlib.Core.List.{List};
 ghost use Prim.Native.Nat.{_*_, _≤_};
+ghost use lib.Dec.{leb, eqb};
 ghost use lib.Ieee.{Float};
 ghost use lib.ListN.{length};
 ghost use Rattle.envelope.specs.Start.{rateFits};
-ghost use Rattle.design.specs.Accepted.{isAccepted};
 ghost use Rattle.model.specs.Types.{Call};
-ghost use Rattle.model.specs.Formed.{framesFit};
-ghost use Rattle.model.specs.Voices.{copiesIn};
 ghost use Rattle.model.specs.Plan.{vibratoFactor, filterFactor, tremoloGain, applied};
 ghost use Rattle.instrument.specs.View.{view};
 ghost use Rattle.instrument.specs.Calls.{refusalOf};
-ghost use Rattle.instrument.specs.Plans.{PlannedAs, stepOf, phaseOn, wobbleOf, movedAs, StandsFor, ModulatedAs, OpenedAs};
+ghost use Rattle.instrument.specs.Plans.{PlannedAs, stepOf, phaseOn, wobbleOf, movedAs, StandsFor};
 use crate::Instrument;
 use crate::Outcome;
 use crate::Reply;
@@ -73,6 +71,16 @@ fn wobble(m: Modulation, bend: f32, cutoff: f32) -> VoiceChange
     VoiceChange::Copies(CopyChange::Bend(bend))
 }
 
+// Whether a voice that moves goes together with the next three: all have as many copies, here one.
+fn side_by_side(left: usize, copies: usize) -> bool
+    ensures { λ r. ⌜ r ≡ (leb 4 left && eqb copies 1) ⌝ }
+{
+    if left < 4 {
+        return false;
+    }
+    copies == 1
+}
+
 impl Instrument {
     // Other copies, phases and tremolo gain.
     fn moved(
@@ -112,28 +120,6 @@ impl Instrument {
         self.moved(ws, vib_phase, flt_phase, trem_phase, trem)
     }
 
-    fn modulated_by(self, frames: usize, vibrato: f32, filter: f32, sine: f32) -> Instrument
-        requires { ⌜ (isAccepted (self .design) ≡ true) × (framesFit (self .design) frames ≡ true) ⌝ }
-        ensures { λ r. ⌜ ModulatedAs self frames vibrato filter sine r ⌝ }
-    {
-        let design = self.design;
-        let m = design.modulation;
-        if m.is_active() {
-            return self.apply_modulation(frames, vibrato, filter, sine);
-        }
-        self
-    }
-
-    // The copies glide on through the block, and their pitch fills the curve.
-    fn open_block(self, frames: usize, curve: &mut [f32]) -> Instrument
-        requires { ⌜ frames * copiesIn (view self .voices) ≡ length (now curve) ⌝ }
-        ensures { λ r. ⌜ OpenedAs self frames (now (curve .exit)) r ⌝ }
-    {
-        let vs = self.voices;
-        let ws = curves::glide_all(vs, self.voice_count, frames, curve);
-        self.blocked(ws, self.voice_count, frames)
-    }
-
     // The number of the refusal of a plan with a curve of length `len`, 0 where it is accepted.
     fn plan_refusal(self, frames: usize, len: usize) -> u8
         ensures { λ n. ⌜ ((vibrato filter sine : Float) (curve : List Float) → length curve ≡ len → n ≡ refusalOf self (Call.plan frames vibrato filter sine curve)) ⌝ }
@@ -151,9 +137,10 @@ impl Instrument {
         if len == frames * copies { 0 } else { 7 }
     }
 
-    // Plans a block: modulation first, where it is active, then the pitch of every copy, frame by frame.
+    // Plans a block: modulation first, where it is active, then the pitch of every copy, frame by frame. The table is changed
+    // where it stands.
     pub fn plan(
-        self,
+        mut self,
         frames: usize,
         vibrato: f32,
         filter: f32,
@@ -166,7 +153,46 @@ impl Instrument {
         if number != 0 {
             return refused(self, number);
         }
-        let state = self.modulated_by(frames, vibrato, filter, tremolo_sine);
-        answered(Reply::Planned, state.open_block(frames, curve))
+        let design = self.design;
+        let m = design.modulation;
+        if m.is_active() {
+            self = self.apply_modulation(frames, vibrato, filter, tremolo_sine);
+        }
+        let n = self.voice_count;
+        let mut at: usize = 0;
+        let mut i: usize = 0;
+        while i < n {
+            let v = self.voices[i];
+            let copies = v.copies_shown();
+            let end = at + frames * copies;
+            if curves::stands(v) {
+                curves::write_voice(v, frames, &mut curve[at..end]);
+                at = end;
+                i += 1;
+            } else if side_by_side(n - i, copies) {
+                let b = self.voices[i + 1];
+                let c = self.voices[i + 2];
+                let d = self.voices[i + 3];
+                let last = at + 4 * frames;
+                let four = curves::glide_voices(v, b, c, d, frames, &mut curve[at..last]);
+                let wa = four.a;
+                let wb = four.b;
+                let wc = four.c;
+                let wd = four.d;
+                self.voices[i] = wa;
+                self.voices[i + 1] = wb;
+                self.voices[i + 2] = wc;
+                self.voices[i + 3] = wd;
+                at = last;
+                i += 4;
+            } else {
+                let w = curves::glide_voice(v, frames, &mut curve[at..end]);
+                self.voices[i] = w;
+                at = end;
+                i += 1;
+            }
+        }
+        self.frames = frames;
+        answered(Reply::Planned, self)
     }
 }

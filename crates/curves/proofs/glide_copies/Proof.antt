@@ -39,6 +39,19 @@ module _ (d : tie.Else1 Inv-loop μ-loop) where
       let b = d .before .before .before .before in
       four-left (b .loop .at) (b .before .before .before .args .frames) (b .before .smaller .result) (b .loop .j) _ more (b .loop .inv .2)
 
+-- the four are back
+module _ (c : tie.After-wd Inv-loop μ-loop) where
+  abbrev way : tie.Else1 Inv-loop μ-loop
+  way = c .before .before .before .before .before .before .before .before .before .before .before .before
+
+  -- their places
+  places : (way .before .before .before .before .loop .j + 4 ≤ way .before .before .before .before .before .smaller .result) × (way .before .before .before .before .before .smaller .result ≤ 8)
+  places = (more way, omega (arith, way .before .before .before .before .before .smaller .ensures))
+
+  -- their numbers end within the curve
+  numbers : let a = way .before .before .before .before .before .before .before .args in way .before .before .before .before .loop .at + a .frames + a .frames + a .frames + a .frames ≤ length (a .curve .now)
+  numbers = let r = rest way in omega (arith, r)
+
 smaller-requires : tie.Need-smaller-requires Inv-loop μ-loop
 smaller-requires c κs = search needs
 
@@ -166,60 +179,60 @@ glide-four-requires : tie.Need-glide-four-requires Inv-loop μ-loop
 glide-four-requires c κs = let d = c .before .before .before .before .before in let r = rest d in omega (arith, r, d .before .before .before .before .loop .inv .1)
 
 mul-cs-2 : tie.Need-mul-cs-2 Inv-loop μ-loop
-mul-cs-2 c = let m = more (c .before .before .before .before .before .before .before .before .before .before .before .before) in omega (arith, m)
+mul-cs-2 c = let p = places c in omega (arith, p .0, p .1)
 
 array-set-from-cs-2 : tie.Need-array-set-from-cs-2 Inv-loop μ-loop
-array-set-from-cs-2 c = let d = c .before .before .before .before .before .before .before .before .before .before .before .before in let m = more d in omega (arith, m, d .before .before .before .before .before .smaller .ensures)
+array-set-from-cs-2 c = let p = places c in omega (arith, p .0, p .1)
 
 add-cs : tie.Need-add-cs Inv-loop μ-loop
-add-cs c = let m = more (c .before .before .before .before .before .before .before .before .before .before .before .before) in omega (arith, m)
+add-cs c = let p = places c in omega (arith, p .0, p .1)
 
 mul-cs-3 : tie.Need-mul-cs-3 Inv-loop μ-loop
-mul-cs-3 c = let m = more (c .before .before .before .before .before .before .before .before .before .before .before .before) in omega (arith, m)
+mul-cs-3 c = let p = places c in omega (arith, p .0, p .1)
 
 array-set-from-cs-3 : tie.Need-array-set-from-cs-3 Inv-loop μ-loop
-array-set-from-cs-3 c = let d = c .before .before .before .before .before .before .before .before .before .before .before .before in let m = more d in omega (arith, m, d .before .before .before .before .before .smaller .ensures)
+array-set-from-cs-3 c = let p = places c in omega (arith, p .0, p .1)
 
 add-cs-2 : tie.Need-add-cs-2 Inv-loop μ-loop
-add-cs-2 c = let m = more (c .before .before .before .before .before .before .before .before .before .before .before .before) in omega (arith, m)
+add-cs-2 c = let p = places c in omega (arith, p .0, p .1)
 
 mul-cs-4 : tie.Need-mul-cs-4 Inv-loop μ-loop
-mul-cs-4 c = let m = more (c .before .before .before .before .before .before .before .before .before .before .before .before) in omega (arith, m)
+mul-cs-4 c = let p = places c in omega (arith, p .0, p .1)
 
 array-set-from-cs-4 : tie.Need-array-set-from-cs-4 Inv-loop μ-loop
-array-set-from-cs-4 c = let d = c .before .before .before .before .before .before .before .before .before .before .before .before in let m = more d in omega (arith, m, d .before .before .before .before .before .smaller .ensures)
+array-set-from-cs-4 c = let p = places c in omega (arith, p .0, p .1)
 
 add-cs-3 : tie.Need-add-cs-3 Inv-loop μ-loop
-add-cs-3 c = let m = more (c .before .before .before .before .before .before .before .before .before .before .before .before) in omega (arith, m)
+add-cs-3 c = let p = places c in omega (arith, p .0, p .1)
 
 mul-cs-5 : tie.Need-mul-cs-5 Inv-loop μ-loop
-mul-cs-5 c = let m = more (c .before .before .before .before .before .before .before .before .before .before .before .before) in omega (arith, m)
+mul-cs-5 c = let p = places c in omega (arith, p .0, p .1)
 
 array-set-from-cs-5 : tie.Need-array-set-from-cs-5 Inv-loop μ-loop
-array-set-from-cs-5 c = let d = c .before .before .before .before .before .before .before .before .before .before .before .before in let m = more d in omega (arith, m, d .before .before .before .before .before .smaller .ensures)
+array-set-from-cs-5 c = let p = places c in omega (arith, p .0, p .1)
 
 add-at : tie.Need-add-at Inv-loop μ-loop
-add-at c = let d = c .before .before .before .before .before .before .before .before .before .before .before .before in let r = rest d in omega (arith, r, d .before .before .before .before .before .before .before .good .1 .1 .1 .0)
+add-at c = let n = numbers c in omega (arith, n, way c .before .before .before .before .before .before .before .good .1 .1 .1 .0)
 
 add-at-2 : tie.Need-add-at-2 Inv-loop μ-loop
-add-at-2 c = let d = c .before .before .before .before .before .before .before .before .before .before .before .before in let r = rest d in omega (arith, r, d .before .before .before .before .before .before .before .good .1 .1 .1 .0)
+add-at-2 c = let n = numbers c in omega (arith, n, way c .before .before .before .before .before .before .before .good .1 .1 .1 .0)
 
 add-at-3 : tie.Need-add-at-3 Inv-loop μ-loop
-add-at-3 c = let d = c .before .before .before .before .before .before .before .before .before .before .before .before in let r = rest d in omega (arith, r, d .before .before .before .before .before .before .before .good .1 .1 .1 .0)
+add-at-3 c = let n = numbers c in omega (arith, n, way c .before .before .before .before .before .before .before .good .1 .1 .1 .0)
 
 add-at-4 : tie.Need-add-at-4 Inv-loop μ-loop
-add-at-4 c = let d = c .before .before .before .before .before .before .before .before .before .before .before .before in let r = rest d in omega (arith, r, d .before .before .before .before .before .before .before .good .1 .1 .1 .0)
+add-at-4 c = let n = numbers c in omega (arith, n, way c .before .before .before .before .before .before .before .good .1 .1 .1 .0)
 
 add-j-2 : tie.Need-add-j-2 Inv-loop μ-loop
-add-j-2 c = let m = more (c .before .before .before .before .before .before .before .before .before .before .before .before) in omega (arith, m)
+add-j-2 c = let p = places c in omega (arith, p .0, p .1)
 
 loop-less-2 : tie.Need-loop-less-2 Inv-loop μ-loop
-loop-less-2 c = let m = more (c .before .before .before .before .before .before .before .before .before .before .before .before) in omega (arith, m)
+loop-less-2 c = let p = places c in omega (arith, p .0, p .1)
 
 loop-again-2 : tie.Need-loop-again-2 Inv-loop μ-loop
 loop-again-2 c =
     let g = c .before .before .before .before .before .before in
-    let d = c .before .before .before .before .before .before .before .before .before .before .before .before in
+    let d = way c in
     let b = d .before .before .before .before in
     let s = b .before .before .before in
     let a = s .args in

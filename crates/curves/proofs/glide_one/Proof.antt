@@ -19,7 +19,7 @@ returns c =
     let h = c .before .before in
     let t = h .before .before .before in
     let a = t .before .before .before .args in
-    steady-glides (a .c) (a .out .now) _ (t .before .steady .ensures (t .if1 .taken)) (h .hold .ensures)
+    steady-glides (a .c) (a .out .now) _ (t .before .steady .ensures .0 (t .if1 .taken)) (h .hold .ensures)
 
 glide-block-requires : tie.Need-glide-block-requires
 glide-block-requires c κs = search needs
