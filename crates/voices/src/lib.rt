@@ -2,6 +2,7 @@
 // A table is an array with a count; a pass reads it up to its count.
 
 ghost use mathlib.Core.Path.{_≡_};
+ghost use mathlib.Core.Bool.{true};
 ghost use mathlib.Core.List.{map, _++_, [], _∷_};
 ghost use Prim.Native.Nat.{_+_, _-_, _*_, _<_, _≤_, min};
 ghost use lib.Dec.{eqb};
@@ -163,10 +164,23 @@ pub fn copies_in(vs: [Voice; 64], n: usize) -> usize
     sum
 }
 
-// Whether rows of `frames` numbers fill `len` places; the product may not fit.
+// Whether both are so small that their product fits.
+fn small(a: usize, b: usize) -> bool
+    ensures { λ r. ⌜ (r ≡ true → (a ≤ 0xffff) × (b ≤ 0xffff)) ⌝ }
+{
+    if 0xffff < a {
+        return false;
+    }
+    b <= 0xffff
+}
+
+// Whether rows of `frames` numbers fill `len` places. The product may not fit; a division is slow.
 pub fn fills(frames: usize, rows: usize, len: usize) -> bool
     ensures { λ r. ⌜ r ≡ eqb (frames * rows) len ⌝ }
 {
+    if small(frames, rows) {
+        return frames * rows == len;
+    }
     if rows == 0 {
         return len == 0;
     }

@@ -1,7 +1,7 @@
 use mathlib.Core.Path.{_≡_, refl, ap, sym, _∙_}
 use mathlib.Core.Bool.{Bool, true, false}
-use Prim.Native.Nat.{ℕ, zero, suc, _*_, _%_, _/_, _<_}
-use native.Mathlib.Nat.{mul-zero, div-add-mod', mul-div-cancel, mul-mod-left}
+use Prim.Native.Nat.{ℕ, zero, suc, _*_, _%_, _/_, _<_, _≤_}
+use native.Mathlib.Nat.{mul-zero, div-add-mod', mul-div-cancel, mul-mod-left, mul-le-mul}
 use native.Mathlib.Omega.{arith}
 use borrow.Author.Tests.{eq-eqb, ne-eqb, eqb-true}
 use borrow.Author.Needs.{needs}
@@ -35,20 +35,33 @@ even frames rows len n h =
     positive zero f = absurd (f refl)
     positive (suc n) f = omega arith
 
-returns : tie.Need-returns
-returns c = none _ _ _ (c .if1 .taken)
+small-requires : tie.Need-small-requires
+small-requires c κs = search needs
 
-rem-if2 : tie.Need-rem-if2
-rem-if2 c = search needs
+mul-result : tie.Need-mul-result
+mul-result c =
+    let h = c .before .small .ensures (c .if1 .taken) in
+    let a = c .before .before .args in
+    let p : a .frames * a .rows ≤ 0xffff * 0xffff = mul-le-mul (h .0) (h .1) in
+    omega (arith, p)
+
+returns : tie.Need-returns
+returns c = search needs
 
 returns-2 : tie.Need-returns-2
-returns-2 c = uneven _ _ _ (c .if2 .taken)
+returns-2 c = none _ _ _ (c .if2 .taken)
+
+rem-if3 : tie.Need-rem-if3
+rem-if3 c = search needs
+
+returns-3 : tie.Need-returns-3
+returns-3 c = uneven _ _ _ (c .if3 .taken)
 
 div-result : tie.Need-div-result
 div-result c = search needs
 
-returns-3 : tie.Need-returns-3
-returns-3 c = even _ _ _ (c .before .if1 .left) (c .if2 .left)
+returns-4 : tie.Need-returns-4
+returns-4 c = even _ _ _ (c .before .if2 .left) (c .if3 .left)
 
 pub fills-spec : {M : Type 1} → statement M
-fills-spec = tie.close (tie.spec returns rem-if2 returns-2 div-result returns-3)
+fills-spec = tie.close (tie.spec small-requires mul-result returns returns-2 rem-if3 returns-3 div-result returns-4)
