@@ -16,7 +16,6 @@ use Rattle.model.specs.Types as M
 use Rattle.model.specs.Changes.{placed, tuned}
 use Rattle.model.specs.Voices.{releasedVoice, withCopies, changed, isPlace, placeOf, hasHandle}
 use Rattle.model.specs.Controls.{liftedVoice, pedalOf, releaseOf, allOffOf, bendOf, brightnessOf}
-use Rattle.voice.specs.View.{Seen}
 use Rattle.voices.specs.View.{seenFirst, voicesOf, inRoom}
 use Rattle.voice.specs.Changes.{onSeen, noSeen}
 use Rattle.voices.specs.Changes.{map-seen, changed-seen, room-map, room-set}

@@ -1,6 +1,5 @@
 pub mod Sizes
 pub mod Walks
-pub mod Lone
 pub mod Parts
 pub mod Formed
 pub mod Calls

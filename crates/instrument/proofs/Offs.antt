@@ -1,7 +1,7 @@
 -- The ways out of a note-off.
 use mathlib.Core.Path.{_≡_, refl, ap, sym, subst, _∙_}
 use mathlib.Core.Bool.{Bool, true, false, cond}
-use mathlib.Core.List.{List, [], _∷_, map}
+use mathlib.Core.List.{List}
 use Prim.Native.Nat.{ℕ, _-_, _≤_, _<_}
 use native.Mathlib.Omega.{arith}
 use borrow.Author.Tests.{le-ltb, lt-ltb, leb-true, eq-eqb, ne-eqb, not-true, not-false}
@@ -17,8 +17,7 @@ use Rattle.model.specs.Types as M
 use Rattle.model.specs.Changes.{placed}
 use Rattle.model.specs.Voices.{changed, isPlace, sounding, firstSounding, aimedAt}
 use Rattle.model.specs.Notes.{offVoice, plays, newestOf, polyOff, heldWithout, notHeld, noneHeld, newestHeld, fallenBack, monoOff, noteOffIn, noteOffOf}
-use Rattle.voice.specs.View.{Seen}
-use Rattle.voices.specs.View.{seenFirst, voicesOf, inRoom}
+use Rattle.voices.specs.View.{seenFirst, voicesOf}
 use Rattle.voice.specs.Changes.{onSeen, noSeen, voiceChanged}
 use Rattle.voice.specs.declared.Voice.{Voice}
 use Rattle.voice.specs.declared.VoiceTest.the-variants.{Plays, Sounding}
@@ -34,10 +33,10 @@ use Rattle.formed.specs.declared.Held.{Held}
 use Rattle.instrument.specs.declared.Outcome.{Outcome}
 use Rattle.instrument.specs.declared.Reply.the-variants.{Off}
 use Rattle.instrument.proofs.Calls.{Free, counts, plain-call, gives-same, gives-placed}
-use Rattle.instrument.proofs.Controls.{mapped-room, mapped-voices, changed-room, changed-voices, table-long}
+use Rattle.instrument.proofs.Controls.{changed-room, changed-voices, table-long}
 use Rattle.formed.specs.Check.{modeAgrees}
 use Rattle.instrument.proofs.Formed.{tableOf, parts-of}
-use Rattle.instrument.proofs.Lone.{set-past, none-find, none-map, lone-find, lone-map}
+use Rattle.lists.specs.Lone.{set-past, none-find, none-map, lone-find, lone-map}
 
 -- the newest note of those that are left
 pub newest-left : (notes : List Note) (c : ℕ) (d : Note) → length notes ≡ 256 → c ≤ 256 → (c ≡ 0 → ⊥) → getD notes (c - 1) d .0 ≡ newestHeld (heldFirst c notes)

@@ -1,20 +1,20 @@
 -- A table changed where it stands: `s` is the state at first, `t` the state now, in which the first i voices are changed by g.
 use mathlib.Core.Path.{_≡_, refl, ap, sym, _∙_}
 use mathlib.Core.Bool.{Bool, true, false}
-use mathlib.Core.List.{List, [], _∷_, _++_, map, map-append}
+use mathlib.Core.List.{map}
 use Prim.Native.Nat.{ℕ, _+_, _<_, _≤_}
 use native.Mathlib.Omega.{arith}
 use borrow.Author.Tests.{eq-eqb, ne-eqb}
 use lib.ListN.{length, take, drop, getD, set, length-map, length-take}
-use Rattle.lists.specs.Prefix.{take-more, shown-set}
+use Rattle.lists.specs.Prefix.{shown-set}
 use lib.Seq.{getD-take}
 use Rattle.lists.specs.Count.{count}
 use Rattle.lists.specs.Places.{findAt, find-found, find-next, count-left}
-use Rattle.lists.specs.Pass.{Pass, pass-read, pass-start, pass-keep, pass-skip, maps-more}
+use Rattle.lists.specs.Pass.{Pass, pass-read, pass-start, pass-keep, pass-stay, maps-more}
 use Rattle.model.specs.Types as M
 use Rattle.model.specs.Voices.{hasHandle}
 use Rattle.model.specs.Controls.{liftedVoice}
-use Rattle.voice.specs.View.{Seen, seen, shown}
+use Rattle.voice.specs.View.{seen, shown}
 use Rattle.voice.specs.Changes.{onSeen, noSeen}
 use Rattle.voice.specs.declared.Voice.{Voice}
 use Rattle.voice.proofs.Sizes.{pastEnd}
@@ -24,12 +24,6 @@ use Rattle.voices.proofs.Table.{seen-at, table-at}
 use Rattle.instrument.specs.Calls.{placedAs, tabledAs}
 use Rattle.instrument.specs.declared.Instrument.{Instrument}
 use Rattle.instrument.proofs.Formed.{tableOf}
-
--- the element at i stays as it is
-pass-stay : {A B : Type 0} {s : A → B} {ys : List B} {i : ℕ} {ws vs : List A} (d : A) (b : B) → s (getD ws i d) ≡ b → Pass s ys i i ws vs → i < length vs → Pass s (ys ++ (b ∷ [])) (i + 1) (i + 1) ws vs
-pass-stay {s = s} {i = i} {ws = ws} d b e p h =
-    let in-ws : i < length ws = omega arith in
-    record { front = rw (take-more ws i d in-ws, map-append s, p .front, e); back = pass-skip p .back; size = p .size; order = omega arith }
 
 pub record Walked (g : M.Voice → M.Voice) (s t : Instrument) (i : ℕ) : Type 0 where
   pub rest : t ≡ tabledAs s (t .voices)

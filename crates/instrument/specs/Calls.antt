@@ -16,7 +16,6 @@ use Rattle.float32.specs.Numbers.{zero as +0}
 use Prim.Native.Nat.{ℕ, _+_, _≤_, _<_}
 use lib.ListN.{length, take, drop, getD, set}
 use Rattle.lists.specs.Count.{count}
-use Rattle.design.specs.declared.DesignReply.{DesignReply}
 use Rattle.design.specs.declared.InstrumentDesign.{InstrumentDesign}
 use Rattle.design.specs.Accepted.{designReply, isAccepted}
 use Rattle.model.specs.Types as model

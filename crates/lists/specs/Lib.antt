@@ -9,3 +9,4 @@ pub mod Every
 pub mod All
 pub mod Found
 pub mod Parts
+pub mod Lone

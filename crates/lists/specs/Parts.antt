@@ -6,7 +6,7 @@ use Prim.Native.Nat.{ℕ, zero, suc, _+_, _-_, _*_, _≤_, _<_}
 use native.Mathlib.Nat.{mul-suc}
 use native.Mathlib.Omega.{arith}
 use lib.ListN.{length, take, drop, getD, set, replicate, length-append, length-take, length-drop, length-set}
-use lib.Seq.{take-at, take-take, drop-drop, drop-cons, drop-set-lt, getD-set-same}
+use lib.Seq.{take-at, take-take, drop-append-seam, drop-drop, drop-cons, drop-set-lt, getD-set-same}
 use Rattle.lists.specs.Prefix.{take-more}
 
 module _ {A : Type 0} where
@@ -23,6 +23,14 @@ module _ {A : Type 0} where
   part-front at k xs ys h e =
       rw (← append-assoc (take at xs) ys (drop k (drop at xs)))
       (take-at (take at xs ++ ys) (drop k (drop at xs)) (at + k) (simp (length-append, length-take) (omega arith)))
+
+  -- and those behind are as they were
+  pub part-rest : (at k : ℕ) (xs ys : List A) → at + k ≤ length xs → length ys ≡ k → drop (at + k) (take at xs ++ (ys ++ drop k (drop at xs))) ≡ drop (at + k) xs
+  part-rest at k xs ys h e =
+      let front = take at xs ++ ys in
+      let l : length front ≡ at + k = simp (length-append, length-take) (omega arith) in
+      let seam : drop (at + k) (front ++ drop k (drop at xs)) ≡ drop k (drop at xs) = rw l at (drop-append-seam front (drop k (drop at xs))) in
+      rw (← append-assoc (take at xs) ys (drop k (drop at xs))) (seam ∙ drop-drop k at xs)
 
 module _ {A : Type 0} where
   -- a part of a front is that part of the whole

@@ -2,8 +2,8 @@
 -- `w` where the next is written, `i` where the next is read, and `ys` the view of what stands at the front.
 -- With w ≡ i it is a map in place; with w ≤ i it packs what it keeps.
 use mathlib.Core.Path.{_≡_, refl, ap, sym, _∙_}
-use mathlib.Core.List.{List, [], _∷_, _++_, map, append-assoc, map-append}
-use Prim.Native.Nat.{ℕ, zero, suc, _+_, _-_, _≤_, _<_}
+use mathlib.Core.List.{List, [], _∷_, _++_, map, map-append}
+use Prim.Native.Nat.{ℕ, _+_, _-_, _≤_, _<_}
 use native.Mathlib.Numerals.{add-one}
 use native.Mathlib.Omega.{arith}
 use lib.ListN.{length, take, drop, getD, set, length-set}
@@ -41,6 +41,13 @@ module _ {A B : Type 0} where
           size = length-set ws w a ∙ p .size;
           order = omega arith;
         }
+
+  -- the element at i stays as it is
+  pub pass-stay : {s : A → B} {ys : List B} {i : ℕ} {ws vs : List A} (d : A) (b : B) → s (getD ws i d) ≡ b → Pass s ys i i ws vs → i < length vs
+      → Pass s (ys ++ (b ∷ [])) (i + 1) (i + 1) ws vs
+  pass-stay {s = s} {i = i} {ws = ws} d b e p h =
+      let in-ws : i < length ws = omega arith in
+      record { front = rw (take-more ws i d in-ws, map-append s, p .front, e); back = pass-skip p .back; size = p .size; order = omega arith }
 
   -- the first w are left as they are
   pub pass-from : (s : A → B) (w i : ℕ) (vs : List A) → w ≤ i → Pass s (map s (take w vs)) w i vs vs

@@ -1,14 +1,14 @@
 -- A voice goes through a block in parts: the parts make the whole. And the first frames of a mix that has places for more.
 use mathlib.Core.Path.{_≡_, refl, ap, sym, _∙_}
-use mathlib.Core.List.{List, [], _∷_, _++_, append-assoc}
+use mathlib.Core.List.{List, [], _∷_, _++_}
 use Prim.Native.Nat.{ℕ, zero, suc, _+_, _-_, _*_, _≤_, _<_}
 use native.Mathlib.Nat.{mul-zero, mul-suc}
 use native.Mathlib.Omega.{arith}
 use lib.Ieee.{Float, binary32, add, mul}
-use lib.ListN.{length, take, drop, replicate, getD, length-append, length-take, take-append-drop}
-use lib.Seq.{take-take, take-all, take-add, drop-drop, drop-append-seam}
+use lib.ListN.{length, take, drop, replicate, getD, take-append-drop}
+use lib.Seq.{take-take, take-all, take-add, drop-drop}
 use Rattle.lists.specs.Prefix.{fold, fold-more, fold-see}
-use Rattle.lists.specs.Parts.{part-length, part-size, part-front, part-take, part-replicate, rest-on}
+use Rattle.lists.specs.Parts.{part-length, part-size, part-front, part-take, part-replicate, rest-on, part-rest}
 use Rattle.float32.specs.Numbers.{zero as +0}
 use Rattle.envelope.specs.declared.EnvGen.{EnvGen}
 use Rattle.envelope.specs.Ticks.{ticked}
@@ -87,14 +87,6 @@ module _ (side : UnisonCopy → Float) (n a m : ℕ) (h : a + m ≤ n) where
       ∙ rw (levels-part (v .gain) trem a m n (v .env) h)
 
 -- ---- one side of one voice
-
--- ys stands for the k elements from `at` on, and those behind are as they were
-part-rest : (at k : ℕ) (xs ys : List Float) → at + k ≤ length xs → length ys ≡ k → drop (at + k) (take at xs ++ (ys ++ drop k (drop at xs))) ≡ drop (at + k) xs
-part-rest at k xs ys h e =
-    let front = take at xs ++ ys in
-    let l : length front ≡ at + k = simp (length-append, length-take) (omega arith) in
-    let seam : drop (at + k) (front ++ drop k (drop at xs)) ≡ drop k (drop at xs) = rw l at (drop-append-seam front (drop k (drop at xs))) in
-    rw (← append-assoc (take at xs) ys (drop k (drop at xs))) (seam ∙ drop-drop k at xs)
 
 module _ (side : UnisonCopy → Float) (n : ℕ) where
   copies-past : (es : List Float) (z : Mixing) (cs : List UnisonCopy) → drop n (fold (sideCopy side n es) z cs .sums) ≡ drop n (z .sums)

@@ -1,9 +1,9 @@
 -- A voice with other copies, as a loop over its copies leaves it.
-use mathlib.Core.Path.{_≡_, refl, ap, sym, _∙_}
+use mathlib.Core.Path.{_≡_, ap, sym, _∙_}
 use mathlib.Core.List.{List, map}
 use Prim.Native.Nat.{ℕ, _+_, _<_}
 use native.Mathlib.Omega.{arith}
-use lib.ListN.{length, take, getD, set}
+use lib.ListN.{length, getD, set}
 use lib.Seq.{take-all}
 use Rattle.lists.specs.Prefix.{map-take, mapped, mapped-next, mapped-more, length-mapped, take-mapped}
 use Rattle.stream.specs.declared.UnisonCopy.{UnisonCopy}

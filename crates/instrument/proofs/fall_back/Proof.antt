@@ -1,5 +1,4 @@
 use mathlib.Core.Path.{_≡_, ap, sym, _∙_}
-use mathlib.Core.Bool.{Bool}
 use Prim.Native.Nat.{ℕ, _≤_}
 use native.Mathlib.Omega.{arith}
 use borrow.Author.Tests.{eq-eqb, ne-eqb}
@@ -8,7 +7,7 @@ use Rattle.lists.specs.Choose.{cond-true, cond-false}
 use Rattle.lists.specs.Prefix.{shown-length}
 use Rattle.voice.specs.declared.VoiceChange.the-variants as Change
 use Rattle.model.specs.Notes.{noneHeld}
-use Rattle.formed.specs.Held.{numberOfNote, heldFirst}
+use Rattle.formed.specs.Held.{numberOfNote}
 use Rattle.formed.proofs.Sizes.{notes-long}
 use Rattle.instrument.specs.Calls.{fallBackOf}
 use Rattle.instrument.proofs.Offs.{newest-left}

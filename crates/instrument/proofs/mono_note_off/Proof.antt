@@ -1,4 +1,4 @@
-use mathlib.Core.Path.{_≡_, ap, sym, subst, _∙_}
+use mathlib.Core.Path.{ap, sym, subst, _∙_}
 use borrow.Author.Needs.{needs}
 use Rattle.formed.specs.declared.Held.{Held}
 use Rattle.formed.specs.Held.{WithoutNote}

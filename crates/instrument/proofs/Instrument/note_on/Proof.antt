@@ -1,11 +1,6 @@
 use Rattle.instrument.proofs.Ons.{strike-for, mono-for, holding-few}
-use mathlib.Core.Path.{_≡_, refl, sym, subst, ap, _∙_}
-use lib.Ieee.{Float}
-use Rattle.formed.specs.Held.{heldFirst}
-use Rattle.instrument.specs.View.{view}
-use Rattle.instrument.specs.Calls.{StrikeAs, MonoAs, holdingOf}
-use Rattle.formed.specs.declared.Held.{Held}
-use Rattle.instrument.proofs.Calls.{free, counts, barred-call}
+use mathlib.Core.Path.{refl, sym, _∙_}
+use Rattle.instrument.proofs.Calls.{free, barred-call}
 use Rattle.instrument.proofs.Ons.{off-is, on-off, on-poly, on-mono}
 use borrow.Author.Needs.{needs}
 use Rattle.instrument.proofs.Instrument.note_on.Statement.{statement}

@@ -1,10 +1,10 @@
 use mathlib.Core.Path.{_≡_, refl, ap, sym, subst, _∙_}
 use Prim.Native.Nat.{ℕ, _≤_, _+_, _-_}
-use mathlib.Core.Bool.{Bool, true, false}
+use mathlib.Core.Bool.{true, false}
 use mathlib.Core.List.{[]}
 use native.Mathlib.Omega.{arith}
 use borrow.Author.Needs.{needs}
-use lib.ListN.{length, take, drop, getD, set, length-take, drop-of-length-le}
+use lib.ListN.{take, drop, getD, set, length-take, drop-of-length-le}
 use Rattle.lists.specs.Count.{count}
 use Rattle.voice.specs.View.{seen, shown}
 use Rattle.voice.specs.Changes.{testOf, onSeen, voiceChanged}

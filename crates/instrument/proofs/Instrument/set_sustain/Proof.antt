@@ -1,12 +1,10 @@
-use mathlib.Core.Path.{_≡_, refl, ap, sym, _∙_}
+use mathlib.Core.Path.{refl, ap, sym, _∙_}
 use Prim.Native.Nat.{_≤_, _-_}
 use native.Mathlib.Omega.{arith}
 use borrow.Author.Needs.{needs}
-use mathlib.Core.Bool.{Bool, true, false}
 use mathlib.Core.Logic.{⊎-elim}
 use Rattle.model.specs.Controls.{liftedVoice}
-use Rattle.instrument.specs.Calls.{answeredAs, placedAs, holdingOf}
-use Rattle.instrument.specs.declared.Instrument.{Instrument}
+use Rattle.instrument.specs.Calls.{answeredAs, placedAs}
 use Rattle.instrument.specs.declared.Reply.the-variants.{Done}
 use Rattle.instrument.proofs.Calls.{free, counts, barred-call}
 use Rattle.instrument.proofs.Controls.{pedal-down-call, pedal-up-call}

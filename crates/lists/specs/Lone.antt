@@ -1,12 +1,12 @@
 -- A list in which at most one element passes a test, or none.
-use mathlib.Core.Path.{_≡_, refl, ap, sym, _∙_}
+use mathlib.Core.Path.{_≡_, refl, ap, _∙_}
 use mathlib.Core.Bool.{Bool, true, false}
 use mathlib.Core.List.{List, [], _∷_, map}
 use Prim.Native.Nat.{ℕ, zero, suc, _+_, _≤_, _<_}
 use native.Mathlib.Omega.{arith}
 use lib.ListN.{length, getD, set}
 use Rattle.lists.specs.Count.{oneIf, count}
 use Rattle.lists.specs.Places.{findAt}
 
 pub set-past : {A : Type 0} (xs : List A) (k : ℕ) (a : A) → length xs ≤ k → set xs k a ≡ xs
 set-past [] k a h = refl
