@@ -36,25 +36,6 @@ phaseOn phase rate step = fractOf (add binary32 phase (mul binary32 rate step))
 unfoldable pub wobbleOf : Modulation → Float → Float → VoiceChange
 wobbleOf m bend cutoff = Copies (cond (lt +0 (m .«filter_octaves»)) (Wobble bend cutoff) (Bend bend))
 
--- other copies, phases and tremolo gain
-unfoldable pub movedAs : Instrument → List Voice → Float → Float → Float → Float → Instrument
-movedAs s vs vibPhase fltPhase tremPhase trem = record {
-  design = s .design;
-  voices = vs;
-  «voice_count» = s .«voice_count»;
-  «next_handle» = s .«next_handle»;
-  sustain = s .sustain;
-  bend = s .bend;
-  brightness = s .brightness;
-  «vib_phase» = vibPhase;
-  «flt_phase» = fltPhase;
-  «trem_phase» = tremPhase;
-  trem = trem;
-  held = s .held;
-  «held_count» = s .«held_count»;
-  frames = s .frames;
-}
-
 -- another table, and the frames of the open block
 unfoldable pub blockedAs : Instrument → List Voice → ℕ → ℕ → Instrument
 blockedAs s vs count frames = record {

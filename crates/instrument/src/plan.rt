@@ -12,7 +12,7 @@ ghost use Rattle.model.specs.Types.{Call};
 ghost use Rattle.model.specs.Plan.{vibratoFactor, filterFactor, tremoloGain, applied};
 ghost use Rattle.instrument.specs.View.{view};
 ghost use Rattle.instrument.specs.Calls.{refusalOf};
-ghost use Rattle.instrument.specs.Plans.{PlannedAs, stepOf, phaseOn, wobbleOf, movedAs, StandsFor};
+ghost use Rattle.instrument.specs.Plans.{PlannedAs, stepOf, phaseOn, wobbleOf, StandsFor};
 use crate::Instrument;
 use crate::Outcome;
 use crate::Reply;
@@ -21,7 +21,6 @@ use crate::frames_fit;
 use crate::refused;
 use design::Modulation;
 use voice::CopyChange;
-use voice::Voice;
 use voice::VoiceChange;
 
 // The host's factor, where the vibrato has a depth.
@@ -82,27 +81,8 @@ fn side_by_side(left: usize, copies: usize) -> bool
 }
 
 impl Instrument {
-    // Other copies, phases and tremolo gain.
-    fn moved(
-        mut self,
-        vs: [Voice; 64],
-        vib_phase: f32,
-        flt_phase: f32,
-        trem_phase: f32,
-        trem: f32,
-    ) -> Instrument
-        ensures { λ r. ⌜ r ≡ movedAs self vs «vib_phase» «flt_phase» «trem_phase» trem ⌝ }
-    {
-        self.voices = vs;
-        self.vib_phase = vib_phase;
-        self.flt_phase = flt_phase;
-        self.trem_phase = trem_phase;
-        self.trem = trem;
-        self
-    }
-
     // The host's values act on every copy, and the phases move on by the block.
-    fn apply_modulation(self, frames: usize, vibrato: f32, filter: f32, sine: f32) -> Instrument
+    fn apply_modulation(mut self, frames: usize, vibrato: f32, filter: f32, sine: f32) -> Instrument
         requires { ⌜ (frames ≤ 1024) × (rateFits (self .design .«sample_rate») ≡ true) ⌝ }
         ensures { λ r. ⌜ StandsFor self (applied (view self) frames vibrato filter sine) r ⌝ }
     {
@@ -117,7 +97,12 @@ impl Instrument {
         let trem_phase = phase_on(self.trem_phase, m.tremolo_rate, step);
         let vs = self.voices;
         let ws = voices::change_all(vs, self.voice_count, wobble(m, bend, cutoff));
-        self.moved(ws, vib_phase, flt_phase, trem_phase, trem)
+        self.voices = ws;
+        self.vib_phase = vib_phase;
+        self.flt_phase = flt_phase;
+        self.trem_phase = trem_phase;
+        self.trem = trem;
+        self
     }
 
     // The number of the refusal of a plan with a curve of length `len`, 0 where it is accepted.

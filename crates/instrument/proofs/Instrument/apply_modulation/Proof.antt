@@ -1,4 +1,5 @@
-use Rattle.instrument.proofs.Plans.{applies}
+use mathlib.Core.Path.{refl}
+use Rattle.instrument.proofs.Plans.{movedAs, applies}
 use borrow.Author.Needs.{needs}
 use Rattle.instrument.proofs.Instrument.apply_modulation.Statement.{statement}
 use Rattle.instrument.proofs.Instrument.apply_modulation.Tie as tie
@@ -30,19 +31,17 @@ wobble-requires c κs = search needs
 change-all-requires : tie.Need-change-all-requires
 change-all-requires c κs = search needs
 
-moved-requires : tie.Need-moved-requires
-moved-requires c κs = search needs
-
 returns : tie.Need-returns
+unfolding movedAs
 returns c =
-    let p3 = c .before .before .before .before in
+    let p3 = c .before .before .before in
     let p1 = p3 .before .before in
     let t = p1 .before .before in
     let f = t .before .before in
     let v = f .before .before in
     let a = v .before .before .before .args in
     applies (a .self) (a .frames) (a .vibrato) (a .filter) (a .sine) _ _ _ _ _ _ _ _ _ _ (v .vibrato-factor .ensures) (f .filter-factor .ensures) (t .tremolo-gain .ensures) (p1 .before .step-of .ensures) (p1 .phase-on .ensures) (p3 .before .phase-on2 .ensures) (p3 .phase-on3 .ensures)
-    (c .before .before .wobble .ensures) (c .before .change-all .ensures) (c .moved .ensures)
+    (c .before .wobble .ensures) (c .change-all .ensures) refl
 
 pub apply-modulation-spec : {M : Type 1} → statement M
 apply-modulation-spec =
@@ -57,5 +56,4 @@ apply-modulation-spec =
     phase-on-requires-3
     wobble-requires
     change-all-requires
-    moved-requires
     returns)
