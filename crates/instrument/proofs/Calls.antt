@@ -1,21 +1,17 @@
 -- From the checks and the parts of a call to what the call promises.
 use mathlib.Core.Path.{_≡_, refl, ap, sym, _∙_}
-use mathlib.Core.Bool.{Bool, true, false, not, _&&_, _||_, cond}
-use mathlib.Core.List.{List, [], _∷_, map}
-use Prim.Native.Nat.{ℕ, zero, suc, _≤_, _<_}
+use mathlib.Core.Bool.{Bool, true, false, not, _&&_}
+use mathlib.Core.List.{List}
+use Prim.Native.Nat.{ℕ, _≤_}
 use native.Mathlib.Omega.{arith}
-use borrow.Author.Tests.{leb-true, le-leb, eq-eqb, ne-eqb, eqb-true, eqb-false}
+use borrow.Author.Tests.{leb-true, le-leb, eq-eqb, ne-eqb, eqb-true}
 use lib.Dec.{leb, eqb}
-use lib.ListN.{length, take, getD, set}
-use Rattle.lists.specs.Choose.{both, clash, cond-true, cond-false}
-use Rattle.lists.specs.All.{all, all-map}
+use Rattle.lists.specs.Choose.{both, cond-true, cond-false}
 use Rattle.model.specs.Types as M
-use Rattle.model.specs.Changes.{answer, placed}
+use Rattle.model.specs.Changes.{placed}
 use Rattle.model.specs.Formed.{wellFormed}
-use Rattle.model.specs.Step.{isMix, noBlock, blockOpen, blockMissing, framesOutside, lengthWrong, handleDue, handlesSpent, refusal, accepted, refusedWith, step}
-use Rattle.voice.specs.View.{Seen, seen}
+use Rattle.model.specs.Step.{isMix, noBlock, blockOpen, blockMissing, framesOutside, lengthWrong, handleDue, handlesSpent, refusal, accepted, step}
 use Rattle.voices.specs.View.{seenFirst, voicesOf, inRoom}
-use Rattle.voice.specs.Changes.{onSeen, noSeen}
 use Rattle.voice.specs.declared.Voice.{Voice}
 use Rattle.formed.specs.Held.{heldFirst}
 use Rattle.instrument.specs.View.{view, counted, formed}

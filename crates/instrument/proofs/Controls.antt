@@ -21,10 +21,11 @@ use Rattle.voice.specs.Changes.{onSeen, noSeen}
 use Rattle.voices.specs.Changes.{map-seen, changed-seen, room-map, room-set}
 use Rattle.voice.specs.declared.Voice.{Voice}
 use Rattle.instrument.specs.View.{view, counted}
-use Rattle.instrument.specs.Calls.{CallAs, answeredAs, placedAs, holdingOf, tabledAs, tunedAs, Gives}
+use Rattle.instrument.specs.Calls.{CallAs, answeredAs, placedAs, holdingOf, Gives}
 use Rattle.instrument.specs.declared.Instrument.{Instrument}
 use Rattle.instrument.specs.declared.Outcome.{Outcome}
 use Rattle.instrument.specs.declared.Reply.the-variants.{Done, Released}
+use Rattle.instrument.proofs.States.{tabledAs, tunedAs}
 use Rattle.instrument.proofs.Calls.{Free, counts, plain-call, gives-same, gives-placed}
 use Rattle.instrument.proofs.Formed.{tableOf}
 

@@ -1,13 +1,13 @@
 -- Check 1 taken apart: the state is well formed exactly where each part of the check passes.
 use mathlib.Core.Path.{_≡_, refl, ap, sym, _∙_}
-use mathlib.Core.Bool.{Bool, true, false, not, _&&_, _||_}
-use mathlib.Core.List.{List, [], _∷_, map}
+use mathlib.Core.Bool.{Bool, true, false, _&&_}
+use mathlib.Core.List.{List}
 use Prim.Native.Nat.{ℕ, _*_, _≤_, _<_}
 use native.Mathlib.Omega.{arith}
 use borrow.Author.Tests.{leb-true, le-leb, lt-leb}
 use lib.Dec.{leb, eqb}
-use lib.ListN.{length, take, getD, length-map, length-take, List·getD-map}
-use Rattle.lists.specs.Choose.{both, clash, and-fails, and-then}
+use lib.ListN.{length, getD, length-map, length-take, List·getD-map}
+use Rattle.lists.specs.Choose.{both, clash}
 use Rattle.lists.specs.All.{all, all-both, all-map}
 use Rattle.lists.specs.Count.{count}
 use Rattle.lists.specs.Perms.{distinct}
@@ -17,7 +17,7 @@ use Rattle.design.specs.declared.PlayMode.the-variants.{Poly, Mono}
 use Rattle.design.specs.Accepted.{isAccepted, copiesOf}
 use Rattle.model.specs.Types as M
 use Rattle.model.specs.Voices.{sounding, handles}
-use Rattle.model.specs.Formed.{max, framesFit, handleFits, copiesFit, stageFits, blockFits, modeFits, wellFormed}
+use Rattle.model.specs.Formed.{handleFits, copiesFit, stageFits, blockFits, modeFits, wellFormed}
 use Rattle.voice.specs.View.{Seen, seen, shown}
 use Rattle.voices.specs.View.{seenFirst, voicesOf, inRoom}
 use Rattle.voice.specs.Changes.{noSeen}

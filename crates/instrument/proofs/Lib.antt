@@ -1,4 +1,5 @@
 pub mod Sizes
+pub mod States
 pub mod Walks
 pub mod Parts
 pub mod Formed

@@ -35,11 +35,11 @@ use Rattle.render.proofs.Parts.{voice-more, first-sums}
 use Rattle.render.proofs.Retaining.{Retaining, goesOn, remaining-seen, retain-on, retain-not}
 use Rattle.instrument.specs.View.{view, counted, formed}
 use Rattle.instrument.specs.Calls.{refusalOf}
-use Rattle.instrument.specs.Plans.{blockedAs}
 use Rattle.instrument.specs.Mixes.{MixAs, unmixedAs}
 use Rattle.instrument.specs.declared.Instrument.{Instrument}
 use Rattle.instrument.specs.declared.MixOutcome.{MixOutcome}
 use Rattle.instrument.specs.declared.MixReply.the-variants.{Mixed}
+use Rattle.instrument.proofs.States.{blockedAs}
 use Rattle.instrument.proofs.Formed.{tableOf}
 use Rattle.instrument.proofs.Calls.{counts, counted-of, refusal-in, refused-call, accepted-step}
 use Rattle.instrument.proofs.Plans.{Rows, frames-most, refused-lent, accepted-lent}

@@ -17,7 +17,7 @@ use Rattle.model.specs.Types as M
 use Rattle.model.specs.Changes.{placed}
 use Rattle.model.specs.Voices.{changed, isPlace, sounding, firstSounding, aimedAt}
 use Rattle.model.specs.Notes.{offVoice, plays, newestOf, polyOff, heldWithout, notHeld, noneHeld, newestHeld, fallenBack, monoOff, noteOffIn, noteOffOf}
-use Rattle.voices.specs.View.{seenFirst, voicesOf}
+use Rattle.voices.specs.View.{seenFirst, voicesOf, inRoom}
 use Rattle.voice.specs.Changes.{onSeen, noSeen, voiceChanged}
 use Rattle.voice.specs.declared.Voice.{Voice}
 use Rattle.voice.specs.declared.VoiceTest.the-variants.{Plays, Sounding}
@@ -26,17 +26,23 @@ use Rattle.formed.specs.Held.{numberOfNote, heldFirst}
 use Rattle.instrument.specs.View.{view}
 use Rattle.design.specs.declared.PlayMode.{PlayMode}
 use Rattle.design.specs.declared.PlayMode.the-variants.{Poly, Mono}
-use Rattle.instrument.specs.Calls.{CallAs, Gives, answeredAs, placedAs, holdingOf, tabledAs, FallsBack, fallBackOf, Reads, OffAs, barredBy}
+use Rattle.instrument.specs.Calls.{CallAs, Gives, answeredAs, placedAs, holdingOf, fallBackOf, Reads, OffAs, barredBy}
 use Rattle.formed.specs.Held.{WithoutNote}
 use Rattle.instrument.specs.declared.Instrument.{Instrument}
 use Rattle.formed.specs.declared.Held.{Held}
 use Rattle.instrument.specs.declared.Outcome.{Outcome}
 use Rattle.instrument.specs.declared.Reply.the-variants.{Off}
+use Rattle.instrument.proofs.States.{tabledAs}
 use Rattle.instrument.proofs.Calls.{Free, counts, plain-call, gives-same, gives-placed}
 use Rattle.instrument.proofs.Controls.{changed-room, changed-voices, table-long}
 use Rattle.formed.specs.Check.{modeAgrees}
 use Rattle.instrument.proofs.Formed.{tableOf, parts-of}
 use Rattle.lists.specs.Lone.{set-past, none-find, none-map, lone-find, lone-map}
+
+-- the table of a Mono note-off with these notes still held
+pub record FallsBack (s : Instrument) (held : List ℕ) (ws : List Voice) : Type 0 where
+  pub room : inRoom (seenFirst (s .«voice_count») ws) ≡ true
+  pub voices : voicesOf (seenFirst (s .«voice_count») ws) ≡ fallenBack (view s) held
 
 -- the newest note of those that are left
 pub newest-left : (notes : List Note) (c : ℕ) (d : Note) → length notes ≡ 256 → c ≤ 256 → (c ≡ 0 → ⊥) → getD notes (c - 1) d .0 ≡ newestHeld (heldFirst c notes)

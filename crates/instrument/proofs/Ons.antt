@@ -1,20 +1,17 @@
 -- The ways out of a note-on.
 use mathlib.Core.Path.{_≡_, refl, ap, sym, subst, _∙_}
 use mathlib.Core.Bool.{Bool, true, false, not, _&&_, cond}
-use mathlib.Core.List.{List, [], _∷_, _++_, map, map-append}
-use Prim.Native.Nat.{ℕ, suc, _+_, _*_, _≤_, _<_}
+use mathlib.Core.List.{List, [], _∷_, _++_, map-append}
+use Prim.Native.Nat.{ℕ, _+_, _≤_, _<_}
 use native.Mathlib.Omega.{arith}
 use native.Mathlib.Numerals.{add-one}
 use borrow.Author.Tests.{le-ltb, lt-ltb, le-leb, leb-true, eq-eqb, ne-eqb, eqb-true, eqb-false}
 use lib.Dec.{leb, eqb}
 use lib.Ieee.{Float, isNan, eq}
-use lib.ListN.{length, getD, set, List·getD-map}
+use lib.ListN.{length, getD, set}
 use Rattle.float32.specs.Numbers.{zero as +0, one, clampOf}
 use Rattle.lists.specs.Choose.{both, clash, cond-true, cond-false}
-use Rattle.lists.specs.All.{all}
-use Rattle.lists.specs.Perms.{distinct}
 use Rattle.lists.specs.Places.{findAt}
-use Rattle.lists.specs.Prefix.{shown-any}
 use Rattle.design.specs.declared.InstrumentDesign.{InstrumentDesign}
 use Rattle.design.specs.declared.PlayMode.{PlayMode}
 use Rattle.design.specs.declared.PlayMode.the-variants.{Poly, Mono}
@@ -23,7 +20,7 @@ use Rattle.envelope.specs.Start.{rateFits}
 use Rattle.model.specs.Types as M
 use Rattle.model.specs.Changes.{placed}
 use Rattle.model.specs.Voices.{newVoice, sounding, changed, handleAt, isPlace, firstSounding}
-use Rattle.model.specs.Notes.{velocityOf, isOff, noteOffOf, killedHandle, takenHandle, afterTaking, startedNote, silentNote, newNote, heldWith, keptVoice, keptNote, goesOn, monoOn, noteOnIn, noteOnOf, newHandleIn, newHandleDue}
+use Rattle.model.specs.Notes.{velocityOf, isOff, noteOffOf, killedHandle, afterTaking, startedNote, silentNote, newNote, keptVoice, keptNote, goesOn, monoOn, noteOnIn, noteOnOf, newHandleIn, newHandleDue}
 use Rattle.model.specs.Step.{handlesSpent}
 use Rattle.voice.specs.View.{Seen, seen, shown}
 use Rattle.voices.specs.View.{seenFirst, voicesOf, inRoom}

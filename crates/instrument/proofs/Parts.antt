@@ -1,23 +1,17 @@
 -- Laws for the parts of check 1 that are no loop, and for handles that stand once.
-use mathlib.Core.Path.{_≡_, refl, ap, sym, _∙_}
-use mathlib.Core.Bool.{Bool, true, false, not, _&&_, _||_, cond}
-use mathlib.Core.List.{List, [], _∷_, map}
-use Prim.Native.Nat.{ℕ, zero, suc, _+_, _≤_, _<_}
+use mathlib.Core.Path.{_≡_, refl}
+use mathlib.Core.Bool.{Bool, true, false, not}
+use Prim.Native.Nat.{ℕ, _≤_, _<_}
 use native.Mathlib.Omega.{arith}
-use borrow.Author.Tests.{lt-leb, le-leb, ltb-true, eq-eqb, ne-eqb, eqb-true, leb-true}
-use lib.Dec.{leb, ltb, eqb}
-use lib.ListN.{length, getD}
-use Rattle.lists.specs.Choose.{and-fails, and-then, or-passes, or-else, both, clash}
-use Rattle.lists.specs.Count.{oneIf, count, count-map}
-use Rattle.lists.specs.Perms.{times, distinct, times-of-distinct}
+use borrow.Author.Tests.{lt-leb, le-leb, eq-eqb, ne-eqb}
+use lib.Dec.{leb}
+use Rattle.lists.specs.Choose.{and-fails, and-then, or-passes, or-else}
 use Rattle.design.specs.declared.InstrumentDesign.{InstrumentDesign}
-use Rattle.design.specs.declared.PlayMode.{PlayMode}
-use Rattle.design.specs.declared.DesignReply.{DesignReply}
 use Rattle.design.specs.declared.DesignReply.the-variants.{Accepted, Refused}
 use Rattle.design.specs.Accepted.{numbersFit, floatsFit, designReply, isAccepted, modulated}
 use Rattle.model.specs.Formed.{framesFit, blockFits}
 use Rattle.model.specs.Types as M
-use Rattle.model.specs.Voices.{handles, hasHandle}
+use Rattle.model.specs.Voices.{handles}
 
 -- a design that is answered Accepted, and one that is not
 module _ (d : InstrumentDesign) where

@@ -22,8 +22,8 @@ use Rattle.voices.proofs.Table.{table, table-size, in-table, read-here, rows-le
 use Rattle.curves.specs.Glides.{voiceCurve, Fits, GlidedVoice, WrittenVoice, OneEach, FourFit, GlidedVoices}
 use Rattle.curves.specs.declared.FourVoices.{FourVoices}
 use Rattle.curves.proofs.Glides.{curves-length}
-use Rattle.instrument.specs.Plans.{blockedAs}
 use Rattle.instrument.specs.declared.Instrument.{Instrument}
+use Rattle.instrument.proofs.States.{blockedAs}
 
 -- a voice n samples later
 abbrev pub later : ℕ → Seen → Seen

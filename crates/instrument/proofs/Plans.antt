@@ -40,10 +40,11 @@ use Rattle.voice.specs.declared.VoiceChange.{VoiceChange}
 use Rattle.instrument.specs.View.{view, counted, formed}
 use Rattle.formed.specs.Check.{voiceFits}
 use Rattle.instrument.specs.Calls.{refusalOf, lentOf, answeredAs, refusedAs, barredBy}
-use Rattle.instrument.specs.Plans.{PlannedAs, stepOf, phaseOn, wobbleOf, blockedAs, StandsFor}
+use Rattle.instrument.specs.Plans.{PlannedAs, stepOf, phaseOn, wobbleOf, StandsFor}
 use Rattle.instrument.specs.declared.Instrument.{Instrument}
 use Rattle.instrument.specs.declared.Outcome.{Outcome}
 use Rattle.instrument.specs.declared.Reply.the-variants.{Planned}
+use Rattle.instrument.proofs.States.{movedAs, blockedAs}
 use Rattle.instrument.proofs.Formed.{tableOf, parts-of}
 use Rattle.instrument.proofs.Calls.{Free, bars, unrefused, counts, counted-of, refusal-in, refused-call, accepted-call}
 use Rattle.instrument.proofs.Controls.{mapped-room, mapped-voices}
@@ -164,25 +165,6 @@ module _ (s : Instrument) (c : M.Call) where
       by false p = let y : _≡_ {A = ℕ} 1 0 = rw p at z in let n : ⊥ = omega arith in absurd n
 
 -- ---- the states
-
--- other copies, phases and tremolo gain
-unfoldable pub movedAs : Instrument → List Voice → Float → Float → Float → Float → Instrument
-movedAs s vs vibPhase fltPhase tremPhase trem = record {
-  design = s .design;
-  voices = vs;
-  «voice_count» = s .«voice_count»;
-  «next_handle» = s .«next_handle»;
-  sustain = s .sustain;
-  bend = s .bend;
-  brightness = s .brightness;
-  «vib_phase» = vibPhase;
-  «flt_phase» = fltPhase;
-  «trem_phase» = tremPhase;
-  trem = trem;
-  held = s .held;
-  «held_count» = s .«held_count»;
-  frames = s .frames;
-}
 
 -- another table of as many voices
 module _ (s : Instrument) (g : M.Voice → M.Voice) (ws : List Voice) (e : seenFirst (s .«voice_count») ws ≡ map (onSeen g) (tableOf s)) where

@@ -1,29 +1,26 @@
 -- The ways out of the queries.
-use mathlib.Core.Path.{_≡_, refl, ap, sym, _∙_}
-use mathlib.Core.Bool.{Bool, true, false, _&&_}
-use mathlib.Core.List.{List, [], _∷_}
-use Prim.Native.Nat.{ℕ, zero, suc, _≤_, _<_}
+use mathlib.Core.Path.{_≡_, refl, ap}
+use mathlib.Core.Bool.{Bool, true, false}
+use Prim.Native.Nat.{ℕ, _≤_, _<_}
 use native.Mathlib.Omega.{arith}
-use borrow.Author.Tests.{ltb-true}
 use lib.Dec.{ltb}
 use lib.ListN.{length, getD, length-map, length-take}
-use Rattle.lists.specs.Choose.{both, clash, cond-true, cond-false}
-use Rattle.lists.specs.Count.{oneIf, count}
+use Rattle.lists.specs.Choose.{both}
 use Rattle.lists.specs.Places.{findAt}
 use Rattle.lists.specs.Found.{find-passes, find-missed}
 use Rattle.model.specs.Types as M
 use Rattle.model.specs.Formed.{wellFormed}
 use Rattle.model.specs.Queries as Q
-use Rattle.model.specs.Queries.{isActive, activeVoices, soundsNote, SomeVoice, VoiceOf}
-use Rattle.model.specs.Voices.{handleAt, isPlace, placeOf, hasHandle}
+use Rattle.model.specs.Queries.{isActive, activeVoices, soundsNote, VoiceOf}
+use Rattle.model.specs.Voices.{isPlace, placeOf, hasHandle}
 use Rattle.voice.specs.View.{shown}
 use Rattle.voices.specs.View.{voicesOf}
 use Rattle.voice.specs.declared.Voice.{Voice}
 use Rattle.instrument.specs.View.{view, counted, formed}
-use Rattle.instrument.specs.Asked.{answerOf, askedOf, VoiceAs}
+use Rattle.instrument.specs.Asked.{askedOf, VoiceAs}
 use Rattle.instrument.specs.declared.Instrument.{Instrument}
 use Rattle.instrument.specs.declared.Answer.{Answer}
-use Rattle.instrument.specs.declared.Answer.the-variants.{Active, Voices, Handle, NoHandle, Refused}
+use Rattle.instrument.specs.declared.Answer.the-variants.{Handle, NoHandle, Refused}
 use Rattle.instrument.proofs.Calls.{counts}
 use Rattle.instrument.proofs.Formed.{tableOf, voice-at}
 

@@ -1,14 +1,13 @@
 -- The ways out of a start.
-use mathlib.Core.Path.{_≡_, refl, ap, sym, _∙_}
-use mathlib.Core.Bool.{Bool, true, false, cond}
+use mathlib.Core.Path.{_≡_, ap, sym, _∙_}
+use mathlib.Core.Bool.{true}
 use Prim.Native.Nat.{ℕ}
-use lib.Ieee.{Float}
 use Rattle.float32.specs.Numbers.{zero as +0, one}
 use Rattle.lists.specs.Choose.{cond-true, cond-false}
 use Rattle.design.specs.declared.InstrumentDesign.{InstrumentDesign}
 use Rattle.design.specs.declared.DesignReply.{DesignReply}
 use Rattle.design.specs.declared.DesignReply.the-variants.{Accepted, Refused}
-use Rattle.design.specs.Accepted.{designReply, isAccepted}
+use Rattle.design.specs.Accepted.{designReply}
 use Rattle.model.specs.Start.{fresh, zeroDesign, zeroState}
 use Rattle.instrument.specs.View.{view, counted}
 use Rattle.instrument.specs.Calls.{StartAs, emptyModel}

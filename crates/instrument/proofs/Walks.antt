@@ -21,8 +21,9 @@ use Rattle.voice.proofs.Sizes.{pastEnd}
 use Rattle.voice.proofs.Laws.{lift-free}
 use Rattle.voices.specs.View.{seenFirst, voicesOf}
 use Rattle.voices.proofs.Table.{seen-at, table-at}
-use Rattle.instrument.specs.Calls.{placedAs, tabledAs}
+use Rattle.instrument.specs.Calls.{placedAs}
 use Rattle.instrument.specs.declared.Instrument.{Instrument}
+use Rattle.instrument.proofs.States.{tabledAs}
 use Rattle.instrument.proofs.Formed.{tableOf}
 
 pub record Walked (g : M.Voice → M.Voice) (s t : Instrument) (i : ℕ) : Type 0 where

@@ -1,6 +1,6 @@
 -- The queries on a state (document 01, "What a call replies"): refusal 1 where the state is not well formed.
 use mathlib.Core.Path.{_≡_}
-use mathlib.Core.Bool.{Bool, true, cond}
+use mathlib.Core.Bool.{true, cond}
 use Prim.Native.Nat.{ℕ}
 use Rattle.model.specs.Queries as model
 use Rattle.model.specs.Queries.{VoiceOf}

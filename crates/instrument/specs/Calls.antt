@@ -10,7 +10,7 @@ use Rattle.voice.specs.declared.VoiceChange.{VoiceChange}
 use Rattle.voice.specs.declared.VoiceChange.the-variants as Change
 use Rattle.voice.specs.Changes.{voiceChanged, testOf, onSeen, noSeen}
 use Rattle.voices.specs.View.{seenFirst, voicesOf, inRoom}
-use Rattle.model.specs.Notes.{noneHeld, newestHeld, fallenBack, noteOffOf, newNote, goesOn, monoOn}
+use Rattle.model.specs.Notes.{noneHeld, newestHeld, noteOffOf, newNote, goesOn, monoOn}
 use Rattle.formed.specs.declared.Held.{Held}
 use Rattle.float32.specs.Numbers.{zero as +0}
 use Prim.Native.Nat.{ℕ, _+_, _≤_, _<_}
@@ -125,32 +125,6 @@ placedAs s vs count next sustain held = record {
 
 abbrev pub holdingOf : Instrument → Held
 holdingOf s = record { notes = s .held; count = s .«held_count» }
-
-abbrev pub tabledAs : Instrument → List Voice → Instrument
-tabledAs s vs = placedAs s vs (s .«voice_count») (s .«next_handle») (s .sustain) (holdingOf s)
-
-unfoldable pub tunedAs : Instrument → List Voice → Float → Float → Instrument
-tunedAs s vs bend brightness = record {
-  design = s .design;
-  voices = vs;
-  «voice_count» = s .«voice_count»;
-  «next_handle» = s .«next_handle»;
-  sustain = s .sustain;
-  bend = bend;
-  brightness = brightness;
-  «vib_phase» = s .«vib_phase»;
-  «flt_phase» = s .«flt_phase»;
-  «trem_phase» = s .«trem_phase»;
-  trem = s .trem;
-  held = s .held;
-  «held_count» = s .«held_count»;
-  frames = s .frames;
-}
-
--- the table of a Mono note-off with these notes still held
-pub record FallsBack (s : Instrument) (held : List ℕ) (ws : List Voice) : Type 0 where
-  pub room : inRoom (seenFirst (s .«voice_count») ws) ≡ true
-  pub voices : voicesOf (seenFirst (s .«voice_count») ws) ≡ fallenBack (view s) held
 
 -- what becomes of the one voice of Mono that is not releasing, with these notes still held
 unfoldable pub fallBackOf : Bool → Float → List ℕ → VoiceChange

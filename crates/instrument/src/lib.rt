@@ -14,7 +14,6 @@ ghost use Rattle.formed.specs.Held.{heldFirst};
 ghost use Rattle.instrument.specs.declared.Instrument.{Instrument};
 ghost use Rattle.instrument.specs.View.{view, counted, formed as formedState};
 ghost use Rattle.instrument.specs.Calls.{emptyModel, refusedAs, answeredAs, barredBy, placedAs, holdingOf, fallBackOf, Reads, OffAs, lastHandle, StrikeAs, MonoAs, CallAs, StartAs, Gives};
-ghost use Rattle.instrument.specs.Plans.{blockedAs};
 ghost use Rattle.instrument.specs.Asked.{answerOf, askedOf, VoiceAs};
 use design::Adsr;
 use design::DesignReply;
@@ -392,16 +391,6 @@ impl Instrument {
 }
 
 impl Instrument {
-    // Another table, and a block of so many frames open, or none.
-    fn blocked(mut self, vs: [Voice; 64], count: usize, frames: usize) -> Instrument
-        ensures { λ r. ⌜ r ≡ blockedAs self vs count frames ⌝ }
-    {
-        self.voices = vs;
-        self.voice_count = count;
-        self.frames = frames;
-        self
-    }
-
     // Bends every voice, and any struck later, by the wheel's factor.
     pub fn set_bend(mut self, factor: f32) -> Outcome
         ensures { λ r. ⌜ CallAs self (Call.bend factor) r ⌝ }

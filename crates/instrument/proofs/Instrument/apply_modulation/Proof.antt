@@ -1,5 +1,6 @@
 use mathlib.Core.Path.{refl}
-use Rattle.instrument.proofs.Plans.{movedAs, applies}
+use Rattle.instrument.proofs.States.{movedAs}
+use Rattle.instrument.proofs.Plans.{applies}
 use borrow.Author.Needs.{needs}
 use Rattle.instrument.proofs.Instrument.apply_modulation.Statement.{statement}
 use Rattle.instrument.proofs.Instrument.apply_modulation.Tie as tie

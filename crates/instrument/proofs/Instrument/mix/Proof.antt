@@ -12,7 +12,7 @@ use Rattle.voice.specs.View.{shown}
 use Rattle.voice.proofs.Sizes.{pastEnd}
 use Rattle.voices.proofs.Table.{table}
 use Rattle.instrument.specs.Calls.{refusalOf}
-use Rattle.instrument.specs.Plans.{blockedAs}
+use Rattle.instrument.proofs.States.{blockedAs}
 use Rattle.instrument.proofs.Sizes.{voices-long, held-long}
 use Rattle.instrument.proofs.Formed.{parts-of}
 use Rattle.instrument.proofs.Calls.{counts, counted-of}

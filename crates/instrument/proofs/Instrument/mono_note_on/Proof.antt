@@ -1,5 +1,5 @@
-use mathlib.Core.Path.{_≡_, ap, _∙_}
-use Prim.Native.Nat.{_<_, _≤_}
+use mathlib.Core.Path.{ap, _∙_}
+use Prim.Native.Nat.{_<_}
 use native.Mathlib.Omega.{arith}
 use Rattle.instrument.specs.Calls.{answeredAs}
 use Rattle.instrument.proofs.Calls.{free, counts}

@@ -12,7 +12,8 @@ use Rattle.voice.proofs.Sizes.{pastEnd}
 use Rattle.voices.specs.View.{voicesOf}
 use Rattle.instrument.specs.declared.Instrument.{Instrument}
 use Rattle.instrument.specs.declared.Reply.the-variants.{Off}
-use Rattle.instrument.specs.Calls.{answeredAs, placedAs, tabledAs}
+use Rattle.instrument.specs.Calls.{answeredAs, placedAs}
+use Rattle.instrument.proofs.States.{tabledAs}
 use Rattle.instrument.proofs.Calls.{free, counts}
 use Rattle.instrument.proofs.Offs.{reads-of}
 use Rattle.instrument.proofs.Walks.{one-changed, last-here, last-before}

@@ -14,8 +14,8 @@ use Rattle.voice.specs.View.{shown}
 use Rattle.voice.proofs.Sizes.{pastEnd}
 use Rattle.instrument.specs.declared.Instrument.{Instrument}
 use Rattle.instrument.specs.Calls.{refusalOf, answeredAs}
-use Rattle.instrument.specs.Plans.{blockedAs}
 use Rattle.instrument.specs.declared.Reply.the-variants.{Planned}
+use Rattle.instrument.proofs.States.{blockedAs}
 use Rattle.instrument.proofs.Sizes.{voices-long}
 use Rattle.instrument.proofs.Planning.{Planning, planning-start, voice-room, voice-glides, voice-stays, four-room, four-glide, planned-voices, planned-curve, planned-state}
 use Rattle.instrument.proofs.Plans.{ModulatedAs, modulated-on, modulated-off, plan-refused, plan-fits, plan-room, plan-even, plan-size, plan-done}

@@ -11,8 +11,9 @@ use Rattle.voice.specs.View.{seen}
 use Rattle.voice.specs.Changes.{onSeen}
 use Rattle.voice.proofs.Sizes.{pastEnd}
 use Rattle.voices.specs.View.{voicesOf}
+use Rattle.instrument.proofs.States.{tabledAs}
 use Rattle.instrument.proofs.Formed.{tableOf}
-use Rattle.instrument.specs.Calls.{answeredAs, placedAs, tabledAs}
+use Rattle.instrument.specs.Calls.{answeredAs, placedAs}
 use Rattle.instrument.specs.declared.Instrument.{Instrument}
 use Rattle.instrument.specs.declared.Reply.the-variants.{Released}
 use Rattle.instrument.proofs.Calls.{free, counts, barred-call}

@@ -1,5 +1,4 @@
 use mathlib.Core.Path.{_≡_, refl, ap, _∙_}
-use Prim.Native.Nat.{_<_}
 use native.Mathlib.Omega.{arith}
 use Rattle.instrument.specs.View.{view}
 use Rattle.instrument.specs.Calls.{answeredAs, lastHandle}

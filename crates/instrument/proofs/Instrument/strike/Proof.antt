@@ -1,6 +1,5 @@
-use mathlib.Core.Path.{_≡_, refl, ap, sym, _∙_}
-use mathlib.Core.Bool.{true, false}
-use Rattle.instrument.specs.Calls.{answeredAs, StrikeAs, Gives}
+use mathlib.Core.Path.{ap, _∙_}
+use Rattle.instrument.specs.Calls.{answeredAs}
 use Rattle.instrument.proofs.Calls.{free}
 use Rattle.instrument.proofs.Ons.{strike-built, silent-gives}
 use Rattle.instrument.proofs.Sizes.{voices-long, held-long}

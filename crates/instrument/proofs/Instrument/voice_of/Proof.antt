@@ -1,9 +1,7 @@
-use mathlib.Core.Path.{_≡_, sym, _∙_}
-use mathlib.Core.Bool.{true}
-use Prim.Native.Nat.{_<_, _≤_}
+use mathlib.Core.Path.{sym, _∙_}
+use Prim.Native.Nat.{_<_}
 use native.Mathlib.Omega.{arith}
 use borrow.Author.Tests.{not-true, not-false}
-use Rattle.instrument.specs.View.{formed}
 use Rattle.instrument.proofs.Formed.{parts-of}
 use Rattle.instrument.proofs.Queries.{voice-refused, voice-none, voice-some}
 use Rattle.instrument.proofs.Sizes.{voices-long, held-long}

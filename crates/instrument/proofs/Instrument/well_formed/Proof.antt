@@ -1,7 +1,6 @@
-use mathlib.Core.Path.{_≡_, refl, sym, _∙_}
-use native.Mathlib.Omega.{arith}
-use borrow.Author.Tests.{not-true, not-false, lt-leb}
-use Rattle.instrument.proofs.Formed.{Parts, unformed, unbounded, tables-last}
+use mathlib.Core.Path.{sym, _∙_}
+use borrow.Author.Tests.{not-true, not-false}
+use Rattle.instrument.proofs.Formed.{unformed, unbounded, tables-last}
 use Rattle.instrument.proofs.Sizes.{voices-long, held-long}
 use borrow.Author.Needs.{needs}
 use Rattle.instrument.proofs.Instrument.well_formed.Statement.{statement}
