@@ -1,16 +1,16 @@
 -- What a glide over one part of the curve makes of the whole.
-use mathlib.Core.Path.{_≡_, refl, ap, sym, _∙_}
+use mathlib.Core.Path.{_≡_, refl, sym, _∙_}
 use mathlib.Core.Bool.{Bool, true, false}
 use mathlib.Core.List.{List, [], _∷_, _++_, flatMap}
-use Prim.Native.Nat.{ℕ, zero, suc, _+_, _*_, _≤_, _<_, min}
+use Prim.Native.Nat.{ℕ, zero, suc, _+_, _*_, _≤_}
 use native.Mathlib.Nat.{mul-zero, mul-suc}
 use native.Mathlib.Omega.{arith}
 use borrow.Author.Tests.{eq-eqb, eqb-true}
 use lib.Dec.{eqb}
 use lib.Ieee.{Float}
-use lib.ListN.{length, take, drop, getD, length-append}
+use lib.ListN.{length, take, drop, length-append}
 use Rattle.lists.specs.Choose.{clash}
-use Rattle.lists.specs.Parts.{part-size, part-front, flat-more}
+use Rattle.lists.specs.Parts.{part-size, part-front}
 use Rattle.stream.specs.declared.UnisonCopy.{UnisonCopy}
 use Rattle.stream.specs.Pitch.{glided, curve, stepped, GlidedOver}
 

@@ -6,7 +6,7 @@ use Prim.Native.Nat.{ℕ, zero, suc, _*_, _≤_, _<_, _^_}
 use native.Mathlib.Omega.{arith}
 use native.Mathlib.Nat.{mul-le-mul}
 use borrow.Author.Tests.{leb-true, le-leb, eq-eqb, ne-eqb, eqb-true, not-false}
-use lib.Dec.{T, leb, eqb, le→leb}
+use lib.Dec.{T, leb, le→leb}
 use lib.Ieee.{Float, binary32, mul, lt, inFloat}
 use lib.IntN.{pos}
 use lib.ListN.{length, getD, length-map, length-take}

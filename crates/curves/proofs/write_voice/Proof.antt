@@ -1,4 +1,4 @@
-use mathlib.Core.Path.{_≡_, refl}
+use mathlib.Core.Path.{refl}
 use borrow.Author.Needs.{needs}
 use Rattle.voice.specs.View.{shown}
 use Rattle.curves.specs.Glides.{Fits}
