@@ -483,19 +483,24 @@ extern "C" fn bench_mark(n: u64) -> u64 {
     black_box(n)
 }
 
-/// Each side with 1 turn and with 1 + COUNTED turns, a mark after each.
+/// Turns that are counted: many of an event, where building the state takes far more than a turn.
+fn counted(c: &Case) -> usize {
+    if matches!(c.call, Call::Event(_)) { 1000 } else { 4 }
+}
+
+/// Each side with 1 turn and with some more, a mark after each. The first run is left out: it finds no memory to take over.
 fn count(c: &Case) {
     let mut lent = Lent::new(c);
-    println!("{}", c.name());
+    println!("{}\t{}", c.name(), counted(c));
     for which in [0, 1] {
-        for turns in [1, 1 + COUNTED] {
+        black_box(bench_measured(which, c, &mut lent, 1));
+        black_box(bench_mark(0));
+        for turns in [1, 1 + counted(c)] {
             black_box(bench_measured(which, c, &mut lent, turns));
             black_box(bench_mark(turns as u64));
         }
     }
 }
-
-const COUNTED: usize = 4;
 
 fn main() {
     let words: Vec<String> = std::env::args().skip(1).collect();
