@@ -2,11 +2,11 @@
 
 use envelope::EnvGen;
 ghost use mathlib.Core.Path.{_≡_};
-ghost use Rattle.kept.specs.Kept.{recordAfter, sampleOf};
+ghost use Rattle.envelope.specs.Ticks.{ticked};
 
 // One sample further, in place: the by-value tick of what the reference holds, stored back. The reply is the sample.
 pub fn tick(env: &mut EnvGen) -> f32
-    ensures { λ x. ⌜ (now (env .exit) ≡ recordAfter (now (env .entry))) × (x ≡ sampleOf (now (env .entry))) ⌝ }
+    ensures { λ x. ⌜ (now (env .exit) ≡ ticked (now (env .entry))) × (x ≡ ticked (now (env .entry)) .level) ⌝ }
 {
     let next = (*env).tick();
     *env = next;

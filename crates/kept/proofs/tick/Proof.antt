@@ -47,7 +47,6 @@ use Rattle.envelope.proofs.EnvGen.tick as tick
 use Rattle.envelope.proofs.EnvGen.tick.Symbol as tick-def
 use Rattle.envelope.proofs.EnvGen.tick.Symbol.{name as #by-value}
 use Rattle.envelope.proofs.EnvGen.tick.Met as tick-thm
-use Rattle.kept.specs.Kept.{recordAfter, sampleOf}
 use Rattle.kept.proofs.tick.Key.{name as #kept}
 use Rattle.kept.proofs.tick as f
 use Rattle.kept.proofs.tick.Statement as stated
@@ -68,13 +67,8 @@ at-machine e v is = LL.owes env-type env-laws e (LL.owed env-type env-laws e (v 
 level-fits : (e : EnvGen) (v : Val) → Is Env e (v ∷ []) → fits binary32 (e .level) ≡ true
 level-fits e v is = LL.owed env-type env-laws e (v ∷ []) is .1 .1 .1 .1 .1 .1 .0 .1
 
--- what the definitions say of the by-value tick's record, in the words of the contract
-after : (h e : EnvGen) → e ≡ ticked h → e ≡ recordAfter h
-unfolding recordAfter
-after h e p = p
-
-sample : (h e : EnvGen) → e ≡ ticked h → e .level ≡ sampleOf h
-unfolding sampleOf
+-- the level of the by-value tick's record
+sample : (h e : EnvGen) → e ≡ ticked h → e .level ≡ ticked h .level
 sample h e p = ap (λ (z : EnvGen). z .level) p
 
 module _ {M : Type 1} (𝓤 : URA M) (H : Heap 𝓤) (A : Atoms 𝓤) (at-mem : Memory → SProp 𝓤) (run : Routine → Fun 𝓤) where
@@ -99,7 +93,7 @@ module _ {M : Type 1} (𝓤 : URA M) (H : Heap 𝓤) (A : Atoms 𝓤) (W : Given
   exits : (e : EnvGen) → e ≡ ticked h → fits binary32 (e .level) ≡ true → ent 𝓤 (sep 𝓤 (A .obs γ (Env .coded .code e)) (sep 𝓤 (A .bor κ (Body (mem Env) b o γ)) (A .lft κ q))) (Post (vfloat binary32 (e .level)))
   exits e p ok =
       qed W (‵ (fobs γ (Env .coded .code e)) ∷ ‵ (fbor κ (Body (mem Env) b o γ)) ∷ ‵ (flft κ q) ∷ []) ∵
-      suffices ! _ (ends-at 𝓤 H A f.ended stayed (f.clauses 𝓤 H A at-mem run) W (((κ, tt), (q, tt), tt, arg, at), tt) (vfloat binary32 (e .level)) (e .level) (e, tt) (tt, tt)) $ says ! (after h e p, sample h e p) $
+      suffices ! _ (ends-at 𝓤 H A f.ended stayed (f.clauses 𝓤 H A at-mem run) W (((κ, tt), (q, tt), tt, arg, at), tt) (vfloat binary32 (e .level)) (e .level) (e, tt) (tt, tt)) $ says ! (p, sample h e p) $
       nothing ! $ move ! (3 ∷ 0 ∷ []) $ join ! $ frame ! $ feqI ! (List Val) (vptr b o ∷ []) (vptr b o ∷ []) refl $ fjoin3 ! $ nothing ! $ move ! (1 ∷ 0 ∷ []) $ fjoin ! $ frame ! $
       owned ! f32 (Is f32) (float-makes 𝓤 H A W binary32) (e .level) _ (refl, ok) $ done !
 
