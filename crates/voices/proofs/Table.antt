@@ -1,13 +1,13 @@
 -- The model's table of the first n voices of an array of 64: its size, and what stands at a place that a pass reads.
 use mathlib.Core.Path.{_≡_, ap, sym, _∙_}
-use mathlib.Core.List.{List, [], _∷_, _++_}
+use mathlib.Core.List.{List}
 use native.Mathlib.Nat.{mul-add}
 use Prim.Native.Nat.{ℕ, _+_, _*_, _<_, min}
 use native.Mathlib.Omega.{arith}
-use lib.ListN.{length, take, drop, getD, length-map, length-take, List·getD-map}
+use lib.ListN.{length, drop, getD, length-map, length-take, List·getD-map}
 use Rattle.float32.proofs.Ordering.{level-order}
 use Rattle.lists.specs.Least.{Ordered}
-use Rattle.lists.specs.Prefix.{take-more, drop-more, shown-at}
+use Rattle.lists.specs.Prefix.{drop-more, shown-at}
 use Rattle.model.specs.Types as model
 use Rattle.model.specs.Voices.{quieter, copiesIn}
 use Rattle.voice.specs.declared.Voice.{Voice}
@@ -31,15 +31,6 @@ module _ (n : ℕ) (vs : List Voice) where
   pub table-at : (i : ℕ) → i < n → getD (table n vs) i model.noVoice ≡ shown (getD vs i pastEnd)
   unfolding seen
   table-at i h = List·getD-map (λ (x : Seen). x .voice) (seenFirst n vs) i noSeen ∙ ap (λ (x : Seen). x .voice) (seen-at i h)
-
--- the copies of one voice more
-copies-append : (xs ys : List model.Voice) → copiesIn (xs ++ ys) ≡ copiesIn xs + copiesIn ys
-copies-append [] ys = omega arith
-copies-append (x ∷ xs) ys = let h = copies-append xs ys in omega arith
-
-pub copies-more : (xs : List model.Voice) (i : ℕ) (d : model.Voice) → i < length xs
-    → copiesIn (take (i + 1) xs) ≡ copiesIn (take i xs) + length (getD xs i d .copies)
-copies-more xs i d h = rw (take-more xs i d) (let a = copies-append (take i xs) (getD xs i d ∷ []) in omega arith)
 
 -- the order of levels is one of voices
 pub quieter-order : Ordered quieter

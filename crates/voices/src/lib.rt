@@ -11,7 +11,7 @@ ghost use Rattle.lists.specs.Count.{oneIf, count};
 ghost use Rattle.lists.specs.Places.{findAt, without};
 ghost use Rattle.lists.specs.Least.{lowest, lowestNext};
 ghost use Rattle.model.specs.Types.{noVoice};
-ghost use Rattle.model.specs.Voices.{quieter, copiesIn};
+ghost use Rattle.model.specs.Voices.{quieter};
 ghost use Rattle.voice.specs.View.{seen};
 ghost use Rattle.voice.specs.Changes.{voiceChanged, testOf, onSeen, noSeen};
 ghost use Rattle.voices.specs.View.{seenFirst, voicesOf};
@@ -148,20 +148,6 @@ pub fn push(vs: [Voice; 64], n: usize, v: Voice) -> [Voice; 64]
     let mut ws = vs;
     ws[n] = v;
     ws
-}
-
-// How many copies the table has.
-pub fn copies_in(vs: [Voice; 64], n: usize) -> usize
-    ensures { λ r. ⌜ r ≡ copiesIn (voicesOf (seenFirst n vs)) ⌝ }
-{
-    let m = room(n);
-    let mut sum: usize = 0;
-    let mut i: usize = 0;
-    while i < m {
-        sum += vs[i].copies_shown();
-        i += 1;
-    }
-    sum
 }
 
 // Whether both are so small that their product fits.
