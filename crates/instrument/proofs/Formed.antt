@@ -6,21 +6,20 @@ use Prim.Native.Nat.{ℕ, _*_, _≤_, _<_}
 use native.Mathlib.Omega.{arith}
 use borrow.Author.Tests.{leb-true, le-leb, lt-leb}
 use lib.Dec.{leb, eqb}
-use lib.ListN.{length, getD, length-map, length-take, List·getD-map}
+use lib.ListN.{length, length-map, length-take}
 use Rattle.lists.specs.Choose.{both, clash}
 use Rattle.lists.specs.All.{all, all-both, all-map}
 use Rattle.lists.specs.Count.{count}
 use Rattle.lists.specs.Perms.{distinct}
-use Rattle.lists.specs.Prefix.{shown-length, shown-any}
+use Rattle.lists.specs.Prefix.{shown-length}
 use Rattle.design.specs.declared.PlayMode.{PlayMode}
 use Rattle.design.specs.declared.PlayMode.the-variants.{Poly, Mono}
 use Rattle.design.specs.Accepted.{isAccepted, copiesOf}
 use Rattle.model.specs.Types as M
 use Rattle.model.specs.Voices.{sounding, handles}
 use Rattle.model.specs.Formed.{handleFits, copiesFit, stageFits, blockFits, modeFits, wellFormed}
-use Rattle.voice.specs.View.{Seen, seen, shown}
+use Rattle.voice.specs.View.{Seen}
 use Rattle.voices.specs.View.{seenFirst, voicesOf, inRoom}
-use Rattle.voice.specs.Changes.{noSeen}
 use Rattle.voice.specs.declared.Voice.{Voice}
 use Rattle.instrument.specs.declared.Instrument.{Instrument}
 use Rattle.formed.specs.Held.{numberOfNote, heldFirst}
@@ -186,9 +185,3 @@ module _ (s : Instrument) (lv : length (s .voices) ≡ 64) (lh : length (s .held
       by : (t : Bool) → tablesOf s ≡ t → x ≡ formed s
       by true t = h ∙ t ∙ sym (formed-of s lv lh (parts t))
       by false t = h ∙ t ∙ unformed s lv lh (tablesOf s) tables-pass t
-
--- a voice of the table is the view of the array's
-pub voice-at : (s : Instrument) (k : ℕ) (d : Voice) → s .«voice_count» ≤ length (s .voices) → k < s .«voice_count» → getD (voicesOf (tableOf s)) k M.noVoice ≡ shown (getD (s .voices) k d)
-unfolding seen
-voice-at s k d l h =
-    List·getD-map (λ (x : Seen). x .voice) (tableOf s) k noSeen ∙ ap (λ (x : Seen). x .voice) (shown-any seen (s .«voice_count») (s .voices) k d noSeen l h)

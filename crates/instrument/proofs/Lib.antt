@@ -9,6 +9,7 @@ pub mod Starts
 pub mod Queries
 pub mod Offs
 pub mod Ons
+pub mod Edits
 pub mod Planning
 pub mod Plans
 pub mod Mixes

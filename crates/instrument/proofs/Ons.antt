@@ -2,16 +2,17 @@
 use mathlib.Core.Path.{_≡_, refl, ap, sym, subst, _∙_}
 use mathlib.Core.Bool.{Bool, true, false, not, _&&_, cond}
 use mathlib.Core.List.{List, [], _∷_, _++_, map-append}
-use Prim.Native.Nat.{ℕ, _+_, _≤_, _<_}
+use Prim.Native.Nat.{ℕ, _+_, _*_, _≤_, _<_}
 use native.Mathlib.Omega.{arith}
 use native.Mathlib.Numerals.{add-one}
-use borrow.Author.Tests.{le-ltb, lt-ltb, le-leb, leb-true, eq-eqb, ne-eqb, eqb-true, eqb-false}
-use lib.Dec.{leb, eqb}
+use borrow.Author.Tests.{le-ltb, lt-ltb, ltb-true, ltb-false, le-leb, leb-true, leb-false, eq-eqb, ne-eqb, not-true}
+use lib.Dec.{leb, ltb, eqb}
 use lib.Ieee.{Float, isNan, eq}
-use lib.ListN.{length, getD, set}
+use lib.ListN.{length, getD, set, length-set, length-map, length-take}
 use Rattle.float32.specs.Numbers.{zero as +0, one, clampOf}
 use Rattle.lists.specs.Choose.{both, clash, cond-true, cond-false}
-use Rattle.lists.specs.Places.{findAt}
+use Rattle.lists.specs.Lone.{set-past}
+use Rattle.lists.specs.Places.{without, without-length, without-past, map-without}
 use Rattle.design.specs.declared.InstrumentDesign.{InstrumentDesign}
 use Rattle.design.specs.declared.PlayMode.{PlayMode}
 use Rattle.design.specs.declared.PlayMode.the-variants.{Poly, Mono}
@@ -19,26 +20,30 @@ use Rattle.design.specs.Accepted.{numbersFit, floatsFit, isAccepted, copiesOf}
 use Rattle.envelope.specs.Start.{rateFits}
 use Rattle.model.specs.Types as M
 use Rattle.model.specs.Changes.{placed}
-use Rattle.model.specs.Voices.{newVoice, sounding, changed, handleAt, isPlace, firstSounding}
+use Rattle.model.specs.Voices.{newVoice, killedVoice, sounding, changed, isPlace, firstSounding}
 use Rattle.model.specs.Notes.{velocityOf, isOff, noteOffOf, killedHandle, afterTaking, startedNote, silentNote, newNote, keptVoice, keptNote, goesOn, monoOn, noteOnIn, noteOnOf, newHandleIn, newHandleDue}
 use Rattle.model.specs.Step.{handlesSpent}
-use Rattle.voice.specs.View.{Seen, seen, shown}
+use Rattle.voice.specs.View.{Seen, seen}
 use Rattle.voices.specs.View.{seenFirst, voicesOf, inRoom}
 use Rattle.voice.specs.Changes.{onSeen, noSeen}
-use Rattle.voices.specs.Steal.{Meets, StolenFrom}
-use Rattle.voice.specs.declared.Voice.{Voice}
+use Rattle.voice.specs.declared.VoiceChange.the-variants.{Keep}
+use Rattle.voices.specs.Changes.{changed-seen, room-set, room-without}
+use Rattle.voices.specs.Steal.{FoundFirst, takenAt, StolenFrom}
+use Rattle.voices.proofs.Stealing.{taken-le, taken-inside, room-made, killed-is, taken-is}
+use Rattle.voices.specs.declared.Found.{Found}
 use Rattle.voices.specs.declared.steal.Stolen.{Stolen}
 use Rattle.formed.specs.Held.{heldFirst}
 use Rattle.instrument.specs.View.{view, formed}
-use Rattle.instrument.specs.Calls.{CallAs, Gives, answeredAs, refusedAs, placedAs, holdingOf, lastHandle, StrikeAs, MonoAs}
+use Rattle.instrument.specs.Calls.{CallAs, Gives, answeredAs, refusedAs, placedAs, lastHandle, HeldOn, keptOn, stayOn, spawnOn, editedBy, OnAs}
 use Rattle.formed.specs.Held.{WithNote}
 use Rattle.instrument.specs.declared.Instrument.{Instrument}
 use Rattle.formed.specs.declared.Held.{Held}
 use Rattle.instrument.specs.declared.Outcome.{Outcome}
-use Rattle.instrument.specs.declared.Reply.the-variants.{Started, Silent, Kept}
+use Rattle.instrument.specs.declared.NoteOn.{NoteOn}
+use Rattle.instrument.specs.declared.Reply.the-variants.{Silent, Kept, Refused}
 use Rattle.instrument.proofs.Calls.{Free, counts, plain-call, gives-placed, refused-call, accepted-call, unrefused, spent}
 use Rattle.instrument.proofs.Controls.{changed-room, changed-voices, table-long}
-use Rattle.instrument.proofs.Formed.{tableOf, Parts, parts-of, voice-at}
+use Rattle.instrument.proofs.Formed.{tableOf, Parts, parts-of}
 
 -- the limits of an accepted design
 pub record Limits (d : InstrumentDesign) : Type 0 where
@@ -68,93 +73,205 @@ module _ (s : Instrument) (f : Free s) (lv : length (s .voices) ≡ 64) (lh : le
   parts : Parts s
   parts = parts-of s lv lh (f .formed)
 
-  met : Meets (view s) (s .voices) (s .«voice_count») (s .design .«max_voices»)
-  unfolding view
-  met = record { size = parts .voices64; voices = refl; most = refl }
+  seen-long : length (tableOf s) ≡ s .«voice_count»
+  seen-long = let h = parts .voices64 in simp (length-map, length-take) (omega arith)
 
-  module _ (stolen : Stolen) (t : StolenFrom (s .voices) (s .«voice_count») (s .design .«max_voices») stolen) where
-    pub few : stolen .count < 64
-    few =
-        let l = limits (s .design) (parts .design) in
-        let a = t .less (parts .voices64) (l .some) (parts .size) in
-        let b = l .most in
-        omega arith
+  set-long : (k : ℕ) (x : Seen) → length (set (tableOf s) k x) ≡ s .«voice_count»
+  set-long k x = length-set (tableOf s) k x ∙ seen-long
 
-    pub spawn-gives : (held : Held) (note : ℕ) (velocity : Float) (voice : Voice) (ws : List Voice) (r : Outcome) → held .count ≤ 256
-        → seen voice ≡ record { voice = newVoice (view s) note velocity; count = copiesOf (s .design) }
-        → seenFirst (stolen .count + 1) ws ≡ seenFirst (stolen .count) (stolen .voices) ++ (seen voice ∷ [])
-        → r ≡ answeredAs (Started (s .«next_handle») (stolen .killed) (stolen .taken)) (placedAs s ws (stolen .count + 1) (s .«next_handle» + 1) (s .sustain) held)
-        → Gives (startedNote (view s) (heldFirst (held .count) (held .notes)) note velocity) r
-    unfolding startedNote view
-    spawn-gives held note velocity voice ws r h n p q =
-        let l = limits (s .design) (parts .design) in
-        let k = few in
-        let room : inRoom (seenFirst (stolen .count) (stolen .voices)) ≡ true = t .room (parts .voices64) (counts s (f .counted) .room) in
-        let c : seen voice .count ≤ 8 = let z = l .copies in rw n z in
-        let v : voicesOf (seenFirst (stolen .count + 1) ws) ≡ afterTaking (view s) ++ (newVoice (view s) note velocity ∷ []) =
-        ap voicesOf p ∙ map-append (λ (x : Seen). x .voice) (seenFirst (stolen .count) (stolen .voices)) (seen voice ∷ []) ∙ ap (λ (l : List M.Voice). l ++ (seen voice .voice ∷ [])) (t .table (view s) met)
-        ∙ ap (λ (x : Seen). afterTaking (view s) ++ (x .voice ∷ [])) n in
-        gives-placed s ws (stolen .count + 1) (s .«next_handle» + 1) (s .sustain) held _ (startedNote (view s) (heldFirst (held .count) (held .notes)) note velocity) r q (omega arith) h (rw p (room-more (seenFirst (stolen .count) (stolen .voices)) (seen voice) room c))
-        (ap (λ (x : ℕ). M.Reply.started (s .«next_handle») x (stolen .taken)) (t .killed (view s) met) ∙ ap (M.Reply.started (s .«next_handle») (killedHandle (view s))) (t .taken (view s) met))
-        (ap (λ (vs : List M.Voice). placed (view s) vs (s .«next_handle» + 1) (s .sustain) (heldFirst (held .count) (held .notes))) v
-        ∙ ap (λ (x : ℕ). placed (view s) (afterTaking (view s) ++ (newVoice (view s) note velocity ∷ [])) x (s .sustain) (heldFirst (held .count) (held .notes))) (add-one (s .«next_handle»)))
+  -- no voice is taken out
+  none-taken : (k : ℕ) (x : Seen) → without (s .«voice_count») (set (tableOf s) k x) ≡ set (tableOf s) k x
+  none-taken k x = let l = set-long k x in without-past (s .«voice_count») (set (tableOf s) k x) (omega arith)
 
-  -- a handle and no voice
-  pub silent-gives : (held : Held) (note : ℕ) (velocity : Float) (r : Outcome) → held .count ≤ 256
-      → r ≡ answeredAs (Silent (s .«next_handle»)) (placedAs s (s .voices) (s .«voice_count») (s .«next_handle» + 1) (s .sustain) held)
-      → Gives (newNote (view s) (heldFirst (held .count) (held .notes)) note velocity false) r
-  unfolding newNote silentNote view
-  silent-gives held note velocity r h q =
-      let k = counts s (f .counted) in
-      gives-placed s (s .voices) (s .«voice_count») (s .«next_handle» + 1) (s .sustain) held _ (silentNote (view s) (heldFirst (held .count) (held .notes))) r q (k .voices64) h (k .room) refl
-      (ap (λ (x : ℕ). placed (view s) (voicesOf (tableOf s)) x (s .sustain) (heldFirst (held .count) (held .notes))) (add-one (s .«next_handle»)))
+  none-size : (k : ℕ) (x : Seen) → s .«voice_count» ≡ length (without (s .«voice_count») (set (tableOf s) k x)) + 0
+  none-size k x = let l = set-long k x in rw (none-taken k x) (omega arith)
 
-  -- Mono, with the place k of the first voice that sounds
-  module _ (k : ℕ) (e : k ≡ findAt sounding (voicesOf (tableOf s))) where
-    first-is : firstSounding (voicesOf (tableOf s)) ≡ k
+  none-changed : (x : Seen) → without (s .«voice_count») (set (tableOf s) (s .«voice_count») x) ≡ tableOf s
+  none-changed x = let l = seen-long in none-taken (s .«voice_count») x ∙ set-past (tableOf s) (s .«voice_count») x (omega arith)
+
+  -- a handle is due
+  module _ (note : ℕ) (velocity : Float) (built : Bool) (held : Held) (heldOn : HeldOn (s .design .mode) (s .held) (s .«held_count») note held) (due : newHandleIn (s .design .mode) (view s) ≡ true) where
+    held-few : held .count ≤ 256
+    held-few = by (s .design .mode) heldOn
+      where
+        by : (p : PlayMode) → HeldOn p (s .held) (s .«held_count») note held → held .count ≤ 256
+        by Poly e = let k = parts .held256 in rw e k
+        by (Mono legato) w = w .room
+
+    abbrev heldNow : List ℕ
+    heldNow = heldFirst (held .count) (held .notes)
+
+    new-is : noteOnIn (s .design .mode) (view s) note velocity built ≡ newNote (view s) heldNow note velocity built
+    unfolding view monoOn
+    new-is = by (s .design .mode) heldOn due
+      where
+        by : (p : PlayMode) → HeldOn p (s .held) (s .«held_count») note held → newHandleIn p (view s) ≡ true
+            → noteOnIn p (view s) note velocity built ≡ newNote (view s) heldNow note velocity built
+        by Poly e d = rw e
+        by (Mono legato) w d =
+            cond-false _ _ _ (not-true (goesOn (view s)) d) ∙ ap (λ (l : List ℕ). newNote (view s) l note velocity built) (sym (w .notes (parts .heldOnce)))
+
+    given : (r : Outcome) → Gives (newNote (view s) heldNow note velocity built) r → Gives (noteOnIn (s .design .mode) (view s) note velocity built) r
+    given r g = rw new-is g
+
+    unspent : (s .«next_handle» ≡ lastHandle → ⊥) → false ≡ (newHandleIn (s .design .mode) (view s) && eqb (s .«next_handle») lastHandle)
+    unspent z = sym (rw (due, ne-eqb (s .«next_handle») lastHandle z))
+
+    -- refusal 8
+    pub on-spent : s .«next_handle» ≡ lastHandle → OnAs s note velocity built (stayOn (Refused 8) true (s .«voice_count») (s .«next_handle») held)
+    on-spent z = record {
+      spent = sym (rw (due, eq-eqb (s .«next_handle») lastHandle z));
+      within = omega arith;
+      size = none-size _ _;
+      room = parts .voices64;
+      same = λ x. absurd (clash true refl x);
+      more = λ x. absurd (clash true refl x);
+    }
+
+    -- a handle and no voice
+    pub on-silent : (s .«next_handle» ≡ lastHandle → ⊥) → built ≡ false → OnAs s note velocity built (stayOn (Silent (s .«next_handle»)) false (s .«voice_count») (s .«next_handle» + 1) held)
+    unfolding newNote silentNote view
+    on-silent z b = record {
+      spent = unspent z;
+      within = omega arith;
+      size = none-size _ _;
+      room = parts .voices64;
+      same = λ _ _ ws e.
+          let t = e ∙ none-changed _ in
+          given _
+          (rw b
+          (gives-placed s ws (s .«voice_count») (s .«next_handle» + 1) (s .sustain) held _ (silentNote (view s) heldNow) _ refl (parts .voices64) held-few (ap inRoom t ∙ counts s (f .counted) .room) refl
+          (ap (λ (l : List Seen). placed (view s) (voicesOf l) (s .«next_handle» + 1) (s .sustain) heldNow) t
+          ∙ ap (λ (x : ℕ). placed (view s) (voicesOf (tableOf s)) x (s .sustain) heldNow) (add-one (s .«next_handle»)))));
+      more = λ _ x. absurd (clash true refl (sym x));
+    }
+
+    -- a new voice, for which room is made
+    module _ (stolen : Stolen) (t : StolenFrom (voicesOf (tableOf s)) (s .design .«max_voices») stolen) where
+      abbrev edited : List Seen
+      edited = editedBy (spawnOn stolen (s .«voice_count») (s .«next_handle») held) (tableOf s)
+
+      abbrev after : ℕ
+      after = cond (ltb (stolen .taken) (s .«voice_count»)) (s .«voice_count») (s .«voice_count» + 1)
+
+      abbrev killedSeen : Seen
+      killedSeen = onSeen killedVoice (getD (tableOf s) (stolen .killed) noSeen)
+
+      edited-voices : voicesOf edited ≡ afterTaking (view s)
+      unfolding view
+      edited-voices =
+          map-without (λ (x : Seen). x .voice) (stolen .taken) (set (tableOf s) (stolen .killed) killedSeen)
+          ∙ ap (without (stolen .taken)) (changed-seen killedVoice (stolen .killed) (tableOf s))
+          ∙ ap (λ (k : ℕ). without k (changed killedVoice (stolen .killed) (voicesOf (tableOf s)))) (t .taken)
+          ∙ ap (λ (k : ℕ). without (takenAt (s .design .«max_voices») (voicesOf (tableOf s))) (changed killedVoice k (voicesOf (tableOf s)))) (t .killed)
+          ∙ room-made (view s)
+
+      edited-room : inRoom edited ≡ true
+      edited-room = room-without (stolen .taken) (set (tableOf s) (stolen .killed) killedSeen) (room-set killedVoice (stolen .killed) (tableOf s) ∙ counts s (f .counted) .room)
+
+      taken-most : stolen .taken ≤ s .«voice_count»
+      taken-most =
+          let l = table-long s f lv in
+          let e = t .taken in
+          let h = taken-le (s .design .«max_voices») (voicesOf (tableOf s)) in
+          omega (arith, l, e, h)
+
+      one-more : after ≡ length edited + 1
+      one-more = by (ltb (stolen .taken) (s .«voice_count»)) refl
+        where
+          by : (b : Bool) → ltb (stolen .taken) (s .«voice_count») ≡ b → after ≡ length edited + 1
+          by true e =
+              let h : stolen .taken < s .«voice_count» = ltb-true _ _ e in
+              let l = set-long (stolen .killed) killedSeen in
+              rw e (sym (without-length (stolen .taken) (set (tableOf s) (stolen .killed) killedSeen) (omega arith) ∙ l))
+          by false e =
+              let h : s .«voice_count» ≤ stolen .taken = ltb-false _ _ e in
+              let l = set-long (stolen .killed) killedSeen in
+              let p = without-past (stolen .taken) (set (tableOf s) (stolen .killed) killedSeen) (omega arith) in
+              rw (e, p, l)
+
+      -- an accepted design has room for 64
+      fits : after ≤ 64
+      fits = by (ltb (stolen .taken) (s .«voice_count»)) refl (leb (2 * s .design .«max_voices») (s .«voice_count»)) refl
+        where
+          by : (b : Bool) → ltb (stolen .taken) (s .«voice_count») ≡ b → (c : Bool) → leb (2 * s .design .«max_voices») (s .«voice_count») ≡ c
+              → after ≤ 64
+          by true e c g = rw e (parts .voices64)
+          by false e true g =
+              let h : s .«voice_count» ≤ stolen .taken = ltb-false _ _ e in
+              let l = table-long s f lv in
+              let k = limits (s .design) (parts .design) in
+              let m : 2 * s .design .«max_voices» ≤ s .«voice_count» = leb-true _ _ g in
+              let i = taken-inside (s .design .«max_voices») (voicesOf (tableOf s)) (k .some) (omega (arith, l, m)) in
+              let q = t .taken in
+              let z : ⊥ = omega (arith, h, i, q, l) in
+              absurd z
+          by false e false g =
+              let k = limits (s .design) (parts .design) .most in
+              let m : s .«voice_count» < 2 * s .design .«max_voices» = leb-false _ _ g in
+              rw e (omega (arith, k, m))
+
+      pub on-started : (s .«next_handle» ≡ lastHandle → ⊥) → built ≡ true → OnAs s note velocity built (spawnOn stolen (s .«voice_count») (s .«next_handle») held)
+      unfolding newNote startedNote view
+      on-started z b = record {
+        spent = unspent z;
+        within = taken-most;
+        size = one-more;
+        room = fits;
+        same = λ _ x. absurd (clash true refl x);
+        more = λ _ _ v ws n e.
+            let c : seen v .count ≤ 8 = let l = limits (s .design) (parts .design) .copies in rw n l in
+            let vs : voicesOf (seenFirst after ws) ≡ afterTaking (view s) ++ (newVoice (view s) note velocity ∷ []) =
+            ap voicesOf e ∙ map-append (λ (x : Seen). x .voice) edited (seen v ∷ []) ∙ ap (λ (l : List M.Voice). l ++ (seen v .voice ∷ [])) edited-voices
+            ∙ ap (λ (x : Seen). afterTaking (view s) ++ (x .voice ∷ [])) n in
+            given _
+            (rw b
+            (gives-placed s ws after (s .«next_handle» + 1) (s .sustain) held _ (startedNote (view s) heldNow note velocity) _ refl fits held-few (rw e (room-more edited (seen v) edited-room c))
+            (ap (λ (x : ℕ). M.Reply.started (s .«next_handle») x (stolen .«taken_handle»)) (t .killedHandle ∙ killed-is (view s)) ∙ ap (M.Reply.started (s .«next_handle») (killedHandle (view s))) (t .takenHandle ∙ taken-is (view s)))
+            (ap (λ (l : List M.Voice). placed (view s) l (s .«next_handle» + 1) (s .sustain) heldNow) vs
+            ∙ ap (λ (x : ℕ). placed (view s) (afterTaking (view s) ++ (newVoice (view s) note velocity ∷ [])) x (s .sustain) heldNow) (add-one (s .«next_handle»)))));
+      }
+
+  pub due-poly : s .design .mode ≡ Poly → newHandleIn (s .design .mode) (view s) ≡ true
+  due-poly m = rw m
+
+  -- Mono, with the first voice that sounds
+  module _ (legato : Bool) (mono : s .design .mode ≡ Mono legato) (found : Found) (first : FoundFirst sounding (voicesOf (tableOf s)) found) where
+    first-is : firstSounding (voicesOf (tableOf s)) ≡ found .place
     unfolding firstSounding
-    first-is = sym e
+    first-is = sym (first .place)
 
-    pub goes-not : s .«voice_count» ≤ k → goesOn (view s) ≡ false
+    goes-not : s .«voice_count» ≤ found .place → goesOn (view s) ≡ false
     unfolding goesOn isPlace view
-    goes-not h = let l = table-long s f lv in rw first-is (le-ltb k (length (voicesOf (tableOf s))) (omega arith))
+    goes-not h = let l = table-long s f lv in rw first-is (le-ltb (found .place) (length (voicesOf (tableOf s))) (omega arith))
 
-    pub goes : k < s .«voice_count» → goesOn (view s) ≡ true
+    pub due-mono : s .«voice_count» ≤ found .place → newHandleIn (s .design .mode) (view s) ≡ true
+    due-mono h = ap (λ (p : PlayMode). newHandleIn p (view s)) mono ∙ ap not (goes-not h)
+
+    goes : found .place < s .«voice_count» → goesOn (view s) ≡ true
     unfolding goesOn isPlace view
-    goes h = let l = table-long s f lv in rw first-is (lt-ltb k (length (voicesOf (tableOf s))) (omega arith))
+    goes h = let l = table-long s f lv in rw first-is (lt-ltb (found .place) (length (voicesOf (tableOf s))) (omega arith))
 
-    pub kept-gives : (held : Held) (legato : Bool) (note : ℕ) (velocity : Float) (built : Bool) (d : Voice) (ws : List Voice) (r : Outcome) → k < s .«voice_count» → WithNote (s .held) (s .«held_count») note held
-        → seenFirst (s .«voice_count») ws ≡ set (tableOf s) k (onSeen (keptVoice (s .design .glide) legato note velocity) (getD (tableOf s) k noSeen))
-        → r ≡ answeredAs (Kept (getD (s .voices) k d .handle)) (placedAs s ws (s .«voice_count») (s .«next_handle») (s .sustain) held)
-        → Gives (monoOn (view s) legato note velocity built) r
-    unfolding monoOn keptNote view shown
-    kept-gives held legato note velocity built d ws r h w c q =
-        let t = counts s (f .counted) in
-        let z = t .voices64 in
-        let g = keptVoice (s .design .glide) legato note velocity in
-        let n : handleAt k (voicesOf (tableOf s)) ≡ getD (s .voices) k d .handle = ap (λ (x : M.Voice). x .handle) (voice-at s k d (omega arith) h) in
-        rw (cond-true _ _ _ (goes h))
-        (gives-placed s ws (s .«voice_count») (s .«next_handle») (s .sustain) held _ (keptNote (view s) legato note velocity) r q (t .voices64) (w .room) (changed-room s f g k ws c)
-        (ap M.Reply.kept (sym n ∙ ap (λ (j : ℕ). handleAt j (voicesOf (tableOf s))) (sym first-is)))
-        (ap (λ (vs : List M.Voice). placed (view s) vs (s .«next_handle») (s .sustain) (heldFirst (held .count) (held .notes))) (changed-voices s f g k ws c ∙ ap (λ (j : ℕ). changed g j (voicesOf (tableOf s))) (sym first-is))
-        ∙ ap (λ (l : List ℕ). placed (view s) (changed g (firstSounding (voicesOf (tableOf s))) (voicesOf (tableOf s))) (s .«next_handle») (s .sustain) l) (w .notes (parts .heldOnce))))
-
-    -- nobody goes on: as a new handle
-    pub mono-new : (held : Held) (legato : Bool) (note : ℕ) (velocity : Float) (built : Bool) (r : Outcome) → s .«voice_count» ≤ k → WithNote (s .held) (s .«held_count») note held
-        → StrikeAs s (heldFirst (held .count) (held .notes)) note velocity built r → MonoAs s legato note velocity built r
-    unfolding monoOn view
-    mono-new held legato note velocity built r h w g =
-        let n = goes-not h in
-        record {
-          goes = λ y. absurd (clash (goesOn (view s)) y n);
-          spent = λ _. g .spent;
-          gives = λ _ z. rw (cond-false _ _ _ n) (subst (λ (l : List ℕ). Gives (newNote (view s) l note velocity built) r) (w .notes (parts .heldOnce)) (g .gives z));
-        }
-
-    pub mono-kept : (legato : Bool) (note : ℕ) (velocity : Float) (built : Bool) (r : Outcome) → k < s .«voice_count» → Gives (monoOn (view s) legato note velocity built) r → MonoAs s legato note velocity built r
-    mono-kept legato note velocity built r h g =
-        let n = goes h in
-        record { goes = λ _. g; spent = λ y _. absurd (clash (goesOn (view s)) n y); gives = λ y _. absurd (clash (goesOn (view s)) n y) }
+    pub on-kept : (note : ℕ) (velocity : Float) (built : Bool) (held : Held) → found .place < s .«voice_count» → WithNote (s .held) (s .«held_count») note held
+        → OnAs s note velocity built (keptOn found (Keep note (s .design .glide) legato velocity) (s .«voice_count») (s .«next_handle») held)
+    unfolding monoOn keptNote view firstSounding
+    on-kept note velocity built held h w = record {
+      spent = sym (ap (λ (b : Bool). b && eqb (s .«next_handle») lastHandle) (ap (λ (p : PlayMode). newHandleIn p (view s)) mono ∙ ap not (goes h)));
+      within = omega arith;
+      size = none-size _ _;
+      room = parts .voices64;
+      same = λ _ _ ws e.
+          let g = keptVoice (s .design .glide) legato note velocity in
+          let c = e ∙ none-taken (found .place) _ in
+          let r = answeredAs (Kept (found .handle)) (placedAs s ws (s .«voice_count») (s .«next_handle») (s .sustain) held) in
+          subst (λ (p : PlayMode). Gives (noteOnIn p (view s) note velocity built) r) (sym mono)
+          (rw (cond-true _ _ _ (goes h))
+          (gives-placed s ws (s .«voice_count») (s .«next_handle») (s .sustain) held _ (keptNote (view s) legato note velocity) _ refl (parts .voices64) (w .room) (changed-room s f g (found .place) ws c)
+          (ap M.Reply.kept (first .handle))
+          (ap (λ (vs : List M.Voice). placed (view s) vs (s .«next_handle») (s .sustain) (heldFirst (held .count) (held .notes))) (changed-voices s f g (found .place) ws c ∙ ap (λ (j : ℕ). changed g j (voicesOf (tableOf s))) (first .place))
+          ∙ ap (λ (l : List ℕ). placed (view s) (changed g (firstSounding (voicesOf (tableOf s))) (voicesOf (tableOf s))) (s .«next_handle») (s .sustain) l) (w .notes (parts .heldOnce)))));
+      more = λ _ x. absurd (clash true refl (sym x));
+    }
 
 -- ---- the call
 
@@ -163,48 +280,19 @@ module _ (s : Instrument) (f : Free s) (n : ℕ) (v : Float) (built : Bool) (r :
   unfolding noteOnOf newHandleDue
   on-off e g = plain-call s (M.Call.noteOn n v built) r f refl refl refl (rw e) (rw (cond-true _ _ _ e) g)
 
-  module _ (e : isOff v ≡ false) where
-    -- refusal 8, where a handle is due and none is left
-    on-spent : newHandleIn (s .design .mode) (view s) ≡ true → s .«next_handle» ≡ lastHandle → r ≡ refusedAs s 8 → CallAs s (M.Call.noteOn n v built) r
-    unfolding newHandleDue handlesSpent view
-    on-spent d z q =
-        rw q (refused-call s (M.Call.noteOn n v built) 8 (spent s (M.Call.noteOn n v built) f refl refl refl (rw (e, d, eq-eqb (s .«next_handle») lastHandle z))) (λ (x : 8 ≡ 0). omega arith))
-
-    on-given : handlesSpent (view s) (M.Call.noteOn n v built) ≡ false → Gives (noteOnIn (s .design .mode) (view s) n (velocityOf v) built) r → CallAs s (M.Call.noteOn n v built) r
-    unfolding noteOnOf view
-    on-given d g = accepted-call s (M.Call.noteOn n v built) r (unrefused s (M.Call.noteOn n v built) f refl refl refl d) (rw (cond-false _ _ _ e) g)
-
-    some-left : (s .«next_handle» ≡ lastHandle → ⊥) → handlesSpent (view s) (M.Call.noteOn n v built) ≡ false
-    unfolding handlesSpent view
-    some-left z = by (newHandleDue (view s) v)
-      where
-        by : (b : Bool) → (b && eqb (s .«next_handle») lastHandle) ≡ false
-        by true = ne-eqb (s .«next_handle») lastHandle z
-        by false = refl
-
-    none-due : newHandleIn (s .design .mode) (view s) ≡ false → handlesSpent (view s) (M.Call.noteOn n v built) ≡ false
+  module _ (e : isOff v ≡ false) (x : Float) (level : x ≡ velocityOf v) (o : NoteOn) (a : OnAs s n x built o) where
+    due-is : handlesSpent (view s) (M.Call.noteOn n v built) ≡ o .spent
     unfolding handlesSpent newHandleDue view
-    none-due d = rw (e, d)
+    due-is = rw e (sym (a .spent))
 
-    pub on-poly : s .design .mode ≡ Poly → StrikeAs s (view s .held) n (velocityOf v) built r → CallAs s (M.Call.noteOn n v built) r
-    on-poly m g = by (eqb (s .«next_handle») lastHandle) refl
-      where
-        by : (b : Bool) → eqb (s .«next_handle») lastHandle ≡ b → CallAs s (M.Call.noteOn n v built) r
-        by true z = let y = eqb-true (s .«next_handle») lastHandle z in on-spent (rw m) y (g .spent y)
-        by false z =
-            let y = eqb-false (s .«next_handle») lastHandle z in
-            on-given (some-left y) (subst (λ (p : PlayMode). Gives (noteOnIn p (view s) n (velocityOf v) built) r) (sym m) (g .gives y))
+    pub on-refused : o .spent ≡ true → r ≡ refusedAs s 8 → CallAs s (M.Call.noteOn n v built) r
+    on-refused z q = rw q (refused-call s (M.Call.noteOn n v built) 8 (spent s (M.Call.noteOn n v built) f refl refl refl (due-is ∙ z)) (λ (x : 8 ≡ 0). omega arith))
 
-    pub on-mono : (legato : Bool) → s .design .mode ≡ Mono legato → MonoAs s legato n (velocityOf v) built r → CallAs s (M.Call.noteOn n v built) r
-    on-mono legato m g = by (goesOn (view s)) refl (eqb (s .«next_handle») lastHandle) refl
-      where
-        given : Gives (monoOn (view s) legato n (velocityOf v) built) r → Gives (noteOnIn (s .design .mode) (view s) n (velocityOf v) built) r
-        given x = subst (λ (p : PlayMode). Gives (noteOnIn p (view s) n (velocityOf v) built) r) (sym m) x
-
-        by : (a : Bool) → goesOn (view s) ≡ a → (b : Bool) → eqb (s .«next_handle») lastHandle ≡ b → CallAs s (M.Call.noteOn n v built) r
-        by true x b z = on-given (none-due (ap (λ (p : PlayMode). newHandleIn p (view s)) m ∙ ap not x)) (given (g .goes x))
-        by false x true z = let y = eqb-true (s .«next_handle») lastHandle z in on-spent (ap (λ (p : PlayMode). newHandleIn p (view s)) m ∙ ap not x) y (g .spent x y)
-        by false x false z = let y = eqb-false (s .«next_handle») lastHandle z in on-given (some-left y) (given (g .gives x y))
+    pub on-done : o .spent ≡ false → Gives (noteOnIn (s .design .mode) (view s) n x built) r → CallAs s (M.Call.noteOn n v built) r
+    unfolding noteOnOf view
+    on-done z g =
+        accepted-call s (M.Call.noteOn n v built) r (unrefused s (M.Call.noteOn n v built) f refl refl refl (due-is ∙ z))
+        (rw (cond-false _ _ _ e) (subst (λ (y : Float). Gives (noteOnIn (s .design .mode) (view s) n y built) r) level g))
 
 -- a velocity
 pub velocity-none : (v : Float) → isNan v ≡ true → +0 ≡ velocityOf v
@@ -218,19 +306,3 @@ velocity-some v e = sym (cond-false _ _ _ e)
 pub off-is : (v x : Float) (b : Bool) → x ≡ velocityOf v → eq x +0 ≡ b → isOff v ≡ b
 unfolding isOff
 off-is v x b e q = ap (λ (y : Float). eq y +0) (sym e) ∙ q
-
-pub strike-built : (m : M.Model) (held : List ℕ) (note : ℕ) (velocity : Float) (built : Bool) (r : Outcome) → built ≡ true → Gives (startedNote m held note velocity) r → Gives (newNote m held note velocity built) r
-unfolding newNote
-strike-built m held note velocity built r e g = rw e g
-
-pub strike-for : (s : Instrument) (n : ℕ) (v x : Float) (built : Bool) (h : Held) (r : Outcome) → h ≡ holdingOf s → x ≡ velocityOf v → StrikeAs s (heldFirst (h .count) (h .notes)) n x built r
-    → StrikeAs s (view s .held) n (velocityOf v) built r
-unfolding view
-strike-for s n v x built h r e q g =
-    subst (λ (y : Float). StrikeAs s (heldFirst (s .«held_count») (s .held)) n y built r) q (subst (λ (k : Held). StrikeAs s (heldFirst (k .count) (k .notes)) n x built r) e g)
-
-pub mono-for : (s : Instrument) (n : ℕ) (v x : Float) (legato built : Bool) (r : Outcome) → x ≡ velocityOf v → MonoAs s legato n x built r → MonoAs s legato n (velocityOf v) built r
-mono-for s n v x legato built r q g = subst (λ (y : Float). MonoAs s legato n y built r) q g
-
-pub holding-few : (s : Instrument) (h : Held) → Free s → h ≡ holdingOf s → h .count ≤ 256
-holding-few s h f e = let k = counts s (f .counted) .held256 in rw e k

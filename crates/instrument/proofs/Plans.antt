@@ -226,9 +226,9 @@ module _ (s : Instrument) (n : ℕ) (vibrato filter sine : Float) (old : List Fl
     kept : Passes (view s) (M.Call.plan n vibrato filter sine old)
     kept = passes (view s) _ (refusal-in s _ (counted-of s _ e) ∙ e)
 
-    pub plan-fits : (n ≤ 1024) × (rateFits (s .design .«sample_rate») ≡ true)
+    pub plan-fits : (n ≤ 1024) × (rateFits (s .design .«sample_rate») ≡ true) × (s .«voice_count» ≤ 64)
     unfolding wellFormed view
-    plan-fits = (frames-most _ _ (not-false _ (kept .frames)), rate-fits _ (both (isAccepted (s .design)) _ (kept .well) .0))
+    plan-fits = (frames-most _ _ (not-false _ (kept .frames)), rate-fits _ (both (isAccepted (s .design)) _ (kept .well) .0), counts s (counted-of s _ e) .voices64)
 
     module _ (t : Instrument) (m : ModulatedAs s n vibrato filter sine t) where
       in-room : counted t ≡ true

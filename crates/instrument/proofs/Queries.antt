@@ -1,10 +1,10 @@
 -- The ways out of the queries.
-use mathlib.Core.Path.{_≡_, refl, ap}
+use mathlib.Core.Path.{_≡_, refl, ap, sym, _∙_}
 use mathlib.Core.Bool.{Bool, true, false}
 use Prim.Native.Nat.{ℕ, _≤_, _<_}
 use native.Mathlib.Omega.{arith}
 use lib.Dec.{ltb}
-use lib.ListN.{length, getD, length-map, length-take}
+use lib.ListN.{length, length-map, length-take}
 use Rattle.lists.specs.Choose.{both}
 use Rattle.lists.specs.Places.{findAt}
 use Rattle.lists.specs.Found.{find-passes, find-missed}
@@ -12,17 +12,15 @@ use Rattle.model.specs.Types as M
 use Rattle.model.specs.Formed.{wellFormed}
 use Rattle.model.specs.Queries as Q
 use Rattle.model.specs.Queries.{isActive, activeVoices, soundsNote, VoiceOf}
-use Rattle.model.specs.Voices.{isPlace, placeOf, hasHandle}
-use Rattle.voice.specs.View.{shown}
+use Rattle.model.specs.Voices.{isPlace, placeOf, hasHandle, handleAt}
 use Rattle.voices.specs.View.{voicesOf}
-use Rattle.voice.specs.declared.Voice.{Voice}
 use Rattle.instrument.specs.View.{view, counted, formed}
 use Rattle.instrument.specs.Asked.{askedOf, VoiceAs}
 use Rattle.instrument.specs.declared.Instrument.{Instrument}
 use Rattle.instrument.specs.declared.Answer.{Answer}
 use Rattle.instrument.specs.declared.Answer.the-variants.{Handle, NoHandle, Refused}
 use Rattle.instrument.proofs.Calls.{counts}
-use Rattle.instrument.proofs.Formed.{tableOf, voice-at}
+use Rattle.instrument.proofs.Formed.{tableOf}
 
 -- a state that is not well formed, on its counts or on what it stands for
 module _ (s : Instrument) (e : formed s ≡ false) where
@@ -71,19 +69,17 @@ module _ (s : Instrument) (e : formed s ≡ true) (lv : length (s .voices) ≡ 6
         let l = table-size in
         record { inRoom = λ _. (fine .1, find-missed (soundsNote n) (voicesOf (tableOf s)) (omega arith)); beyond = λ x. absurd (x (fine .0)) }
 
-    pub voice-some : (d : Voice) → k < s .«voice_count» → VoiceAs s n (Handle (getD (s .voices) k d .handle))
-    unfolding VoiceOf view shown
-    voice-some d h =
+    pub voice-some : (a : ℕ) → a ≡ handleAt (findAt (soundsNote n) (voicesOf (tableOf s))) (voicesOf (tableOf s)) → k < s .«voice_count» → VoiceAs s n (Handle a)
+    unfolding VoiceOf view
+    voice-some a e h =
         let l = table-size in
-        let z = counts s (fine .0) .voices64 in
-        let v = voice-at s k d (omega arith) h in
         record {
           inRoom = λ _. (
             fine .1,
             record {
               place = k;
               inside = omega arith;
-              names = ap (λ (x : M.Voice). x .handle) v;
+              names = ap (λ (i : ℕ). handleAt i (voicesOf (tableOf s))) q ∙ sym e;
               sounds = rw q (find-passes (soundsNote n) M.noVoice (voicesOf (tableOf s)) (omega arith));
             },
           );

@@ -1,23 +1,32 @@
 -- What a call on a state promises: its reply, the next state through its view, and on a refusal the very state given
 -- (document 01, "What a call replies").
 use mathlib.Core.Path.{_≡_}
-use mathlib.Core.Bool.{Bool, true, false, cond}
-use mathlib.Core.List.{List, []}
-use lib.Dec.{eqb}
+use mathlib.Core.Bool.{Bool, true, false, _&&_, cond}
+use mathlib.Core.List.{List, [], _∷_, _++_}
+use lib.Dec.{eqb, ltb}
 use lib.Ieee.{Float}
 use Rattle.voice.specs.declared.Voice.{Voice}
 use Rattle.voice.specs.declared.VoiceChange.{VoiceChange}
 use Rattle.voice.specs.declared.VoiceChange.the-variants as Change
 use Rattle.voice.specs.Changes.{voiceChanged, testOf, onSeen, noSeen}
-use Rattle.voices.specs.View.{seenFirst, voicesOf, inRoom}
-use Rattle.model.specs.Notes.{noneHeld, newestHeld, noteOffOf, newNote, goesOn, monoOn}
+use Rattle.voice.specs.View.{Seen, seen}
+use Rattle.voices.specs.View.{seenFirst, voicesOf}
+use Rattle.voices.specs.declared.Found.{Found}
+use Rattle.voices.specs.declared.steal.Stolen.{Stolen}
+use Rattle.note.specs.declared.Note.{Note}
+use Rattle.model.specs.Voices.{newVoice}
+use Rattle.model.specs.Notes.{noneHeld, newestHeld, noteOffOf, newHandleIn, noteOnIn}
 use Rattle.formed.specs.declared.Held.{Held}
+use Rattle.formed.specs.Held.{WithNote}
 use Rattle.float32.specs.Numbers.{zero as +0}
 use Prim.Native.Nat.{ℕ, _+_, _≤_, _<_}
 use lib.ListN.{length, take, drop, getD, set}
-use Rattle.lists.specs.Count.{count}
+use Rattle.lists.specs.Count.{count, oneIf}
+use Rattle.lists.specs.Places.{without}
 use Rattle.design.specs.declared.InstrumentDesign.{InstrumentDesign}
-use Rattle.design.specs.Accepted.{designReply, isAccepted}
+use Rattle.design.specs.declared.PlayMode.{PlayMode}
+use Rattle.design.specs.declared.PlayMode.the-variants.{Poly, Mono}
+use Rattle.design.specs.Accepted.{designReply, isAccepted, copiesOf}
 use Rattle.model.specs.Types as model
 use Rattle.model.specs.Types.{noVoice}
 use Rattle.model.specs.Step.{refusal, lentTo, step}
@@ -26,6 +35,7 @@ use Rattle.instrument.specs.View.{view, counted, formed}
 use Rattle.instrument.specs.declared.Instrument.{Instrument}
 use Rattle.instrument.specs.declared.NewInstrument.{NewInstrument}
 use Rattle.instrument.specs.declared.NoteOff.{NoteOff}
+use Rattle.instrument.specs.declared.NoteOn.{NoteOn}
 use Rattle.instrument.specs.declared.Outcome.{Outcome}
 use Rattle.instrument.specs.declared.Reply.{Reply}
 use Rattle.instrument.specs.declared.Reply.the-variants.{Started, Silent, Kept, Off, Done, Released, Planned, Refused}
@@ -154,13 +164,74 @@ pub record OffAs (s : Instrument) (note : ℕ) (o : NoteOff) : Type 0 where
 abbrev pub lastHandle : ℕ
 lastHandle = 0xffff_ffff_ffff_ffff
 
--- a new handle with these notes held, or refusal 8
-pub record StrikeAs (s : Instrument) (held : List ℕ) (note : ℕ) (velocity : Float) (built : Bool) (r : Outcome) : Type 0 where
-  pub spent : s .«next_handle» ≡ lastHandle → r ≡ refusedAs s 8
-  pub gives : (s .«next_handle» ≡ lastHandle → ⊥) → Gives (newNote (view s) held note velocity built) r
+-- ---- a note-on that is no note-off, by what it does
 
--- Mono: the voice that sounds goes on; otherwise a new handle, or refusal 8
-pub record MonoAs (s : Instrument) (legato : Bool) (note : ℕ) (velocity : Float) (built : Bool) (r : Outcome) : Type 0 where
-  pub goes : goesOn (view s) ≡ true → Gives (monoOn (view s) legato note velocity built) r
-  pub spent : goesOn (view s) ≡ false → s .«next_handle» ≡ lastHandle → r ≡ refusedAs s 8
-  pub gives : goesOn (view s) ≡ false → (s .«next_handle» ≡ lastHandle → ⊥) → Gives (monoOn (view s) legato note velocity built) r
+-- the notes held after it: in Mono its note moves to the end
+abbrev pub HeldOn : PlayMode → List Note → ℕ → ℕ → Held → Type 0
+HeldOn Poly notes count note h = h ≡ record { notes = notes; count = count }
+HeldOn (Mono legato) notes count note h = WithNote notes count note h
+
+-- the voice that sounds goes on
+abbrev pub keptOn : Found → VoiceChange → ℕ → ℕ → Held → NoteOn
+keptOn found change n next held = record {
+  reply = Kept (found .handle);
+  spent = false;
+  place = found .place;
+  change = change;
+  taken = n;
+  adds = false;
+  count = n;
+  next = next;
+  notes = held .notes;
+  «held_count» = held .count;
+}
+
+-- no voice is changed
+abbrev pub stayOn : Reply → Bool → ℕ → ℕ → Held → NoteOn
+stayOn reply spent n next held = record {
+  reply = reply;
+  spent = spent;
+  place = n;
+  change = Change.Kill;
+  taken = n;
+  adds = false;
+  count = n;
+  next = next;
+  notes = held .notes;
+  «held_count» = held .count;
+}
+
+-- a new voice, for which room is made
+abbrev pub spawnOn : Stolen → ℕ → ℕ → Held → NoteOn
+spawnOn stolen n next held = record {
+  reply = Started next (stolen .«killed_handle») (stolen .«taken_handle»);
+  spent = false;
+  place = stolen .killed;
+  change = Change.Kill;
+  taken = stolen .taken;
+  adds = true;
+  count = cond (ltb (stolen .taken) n) n (n + 1);
+  next = next + 1;
+  notes = held .notes;
+  «held_count» = held .count;
+}
+
+abbrev pub heldBy : NoteOn → Held
+heldBy o = record { notes = o .notes; count = o .«held_count» }
+
+-- the table with its one voice changed, and without the one taken out
+abbrev pub editedBy : NoteOn → List Seen → List Seen
+editedBy o l = without (o .taken) (set l (o .place) (onSeen (voiceChanged (o .change)) (getD l (o .place) noSeen)))
+
+-- a note-on that is carried out as `o` says is the definition's: refusal 8 where a handle is due and none is left; else the table ws,
+-- edited, with the new voice v behind it where one is added
+pub record OnAs (s : Instrument) (note : ℕ) (velocity : Float) (built : Bool) (o : NoteOn) : Type 0 where
+  pub spent : o .spent ≡ newHandleIn (s .design .mode) (view s) && eqb (s .«next_handle») lastHandle
+  pub within : o .taken ≤ s .«voice_count»
+  pub size : o .count ≡ length (editedBy o (seenFirst (s .«voice_count») (s .voices))) + oneIf (o .adds)
+  pub room : o .count ≤ 64
+  pub same : o .spent ≡ false → o .adds ≡ false → (ws : List Voice) → seenFirst (o .count) ws ≡ editedBy o (seenFirst (s .«voice_count») (s .voices))
+      → Gives (noteOnIn (s .design .mode) (view s) note velocity built) (answeredAs (o .reply) (placedAs s ws (o .count) (o .next) (s .sustain) (heldBy o)))
+  pub more : o .spent ≡ false → o .adds ≡ true → (v : Voice) (ws : List Voice) → seen v ≡ record { voice = newVoice (view s) note velocity; count = copiesOf (s .design) }
+      → seenFirst (o .count) ws ≡ editedBy o (seenFirst (s .«voice_count») (s .voices)) ++ (seen v ∷ [])
+      → Gives (noteOnIn (s .design .mode) (view s) note velocity built) (answeredAs (o .reply) (placedAs s ws (o .count) (o .next) (s .sustain) (heldBy o)))

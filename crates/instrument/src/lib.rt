@@ -2,18 +2,18 @@
 
 ghost use mathlib.Core.Path.{_≡_};
 ghost use mathlib.Core.Bool.{Bool, true};
-ghost use Prim.Native.Nat.{_≤_};
+ghost use Prim.Native.Nat.{_≤_, _<_};
 ghost use Rattle.design.specs.Accepted.{isAccepted};
 ghost use Rattle.model.specs.Types.{Call};
 ghost use Rattle.model.specs.Formed.{framesFit, blockFits};
 ghost use Rattle.model.specs.Start.{zeroDesign};
 ghost use Rattle.model.specs.Queries.{isActive, activeVoices};
 ghost use Rattle.design.specs.declared.PlayMode.the-variants.{Poly, Mono};
-ghost use Rattle.model.specs.Notes.{velocityOf, noteOffOf, startedNote};
+ghost use Rattle.model.specs.Notes.{velocityOf, noteOffOf};
 ghost use Rattle.formed.specs.Held.{heldFirst};
 ghost use Rattle.instrument.specs.declared.Instrument.{Instrument};
 ghost use Rattle.instrument.specs.View.{view, counted, formed as formedState};
-ghost use Rattle.instrument.specs.Calls.{emptyModel, refusedAs, answeredAs, barredBy, placedAs, holdingOf, fallBackOf, Reads, OffAs, lastHandle, StrikeAs, MonoAs, CallAs, StartAs, Gives};
+ghost use Rattle.instrument.specs.Calls.{emptyModel, refusedAs, answeredAs, barredBy, fallBackOf, Reads, OffAs, lastHandle, keptOn, stayOn, spawnOn, HeldOn, OnAs, CallAs, StartAs, Gives};
 ghost use Rattle.instrument.specs.Asked.{answerOf, askedOf, VoiceAs};
 use design::Adsr;
 use design::DesignReply;
@@ -27,6 +27,9 @@ use stream::UnisonCopy;
 use voice::Voice;
 use voice::VoiceChange;
 use voice::VoiceTest;
+use voice::new_voice;
+use voices::Found;
+use voices::steal::Stolen;
 
 mod mix;
 mod plan;
@@ -71,9 +74,10 @@ pub enum Reply {
     Refused(u8),
 }
 
+// The state comes first: compiled code then moves it in one piece, apart from the reply.
 pub struct Outcome {
-    pub reply: Reply,
     pub state: Instrument,
+    pub reply: Reply,
 }
 
 // What Mix replies; the number is that of the refusal.
@@ -84,10 +88,10 @@ pub enum MixReply {
 }
 
 pub struct MixOutcome {
-    pub reply: MixReply,
+    pub state: Instrument,
     // The handles of the voices that ended, in table order, with zeros behind.
     pub ended: [u64; 64],
-    pub state: Instrument,
+    pub reply: MixReply,
 }
 
 // What a query answers.
@@ -114,6 +118,24 @@ struct NoteOff {
     // The notes that stay held, and whether one was held.
     rest: Held,
     held: bool,
+}
+
+// What a note-on does. A place past the table stands for no voice.
+struct NoteOn {
+    reply: Reply,
+    // A handle is due, and none is left.
+    spent: bool,
+    // The voice that goes on or is killed, and what becomes of it.
+    place: usize,
+    change: VoiceChange,
+    // The voice that is taken out.
+    taken: usize,
+    // Whether a voice is added, and how many there are then.
+    adds: bool,
+    count: usize,
+    next: u64,
+    notes: [Note; 256],
+    held_count: usize,
 }
 
 fn is_accepted(design: InstrumentDesign) -> bool
@@ -296,38 +318,6 @@ impl Instrument {
         5
     }
 
-    // Another table, next handle, pedal and held notes.
-    fn placed(
-        mut self,
-        vs: [Voice; 64],
-        count: usize,
-        next: u64,
-        sustain: bool,
-        held: Held,
-    ) -> Instrument
-        ensures { λ r. ⌜ r ≡ placedAs self vs count next sustain held ⌝ }
-    {
-        let notes = held.notes;
-        self.voices = vs;
-        self.voice_count = count;
-        self.next_handle = next;
-        self.sustain = sustain;
-        self.held = notes;
-        self.held_count = held.count;
-        self
-    }
-
-    // The held notes as they are.
-    fn holding(self) -> Held
-        ensures { λ h. ⌜ h ≡ holdingOf self ⌝ }
-    {
-        let notes = self.held;
-        Held {
-            notes,
-            count: self.held_count,
-        }
-    }
-
     // Sustain pedal: on its release every sustained voice is released.
     pub fn set_sustain(mut self, down: bool) -> Outcome
         ensures { λ r. ⌜ CallAs self (Call.pedal down) r ⌝ }
@@ -437,8 +427,8 @@ impl Instrument {
         }
         let vs = self.voices;
         let n = self.voice_count;
-        let k = voices::find_first(vs, n, VoiceTest::Handle(handle));
-        Answer::Active(k < n)
+        let found = voices::find_first(vs, n, VoiceTest::Handle(handle));
+        Answer::Active(found.place < n)
     }
 
     // How many voices are in the table.
@@ -460,12 +450,11 @@ impl Instrument {
         }
         let vs = self.voices;
         let n = self.voice_count;
-        let k = voices::find_first(vs, n, VoiceTest::SoundsNote(note));
-        if n <= k {
+        let found = voices::find_first(vs, n, VoiceTest::SoundsNote(note));
+        if n <= found.place {
             return Answer::NoHandle;
         }
-        let v = vs[k];
-        Answer::Handle(v.handle)
+        Answer::Handle(found.handle)
     }
 }
 
@@ -582,71 +571,109 @@ fn velocity_of(velocity: f32) -> f32
     float32::clamp(velocity, 0.0, 1.0)
 }
 
+// The notes held after a note-on: in Mono the note is the newest.
+fn held_on(mode: PlayMode, notes: [Note; 256], count: usize, note: u8) -> Held
+    ensures { λ h. ⌜ HeldOn mode notes count note h ⌝ }
+{
+    match mode {
+        PlayMode::Poly => Held { notes, count },
+        PlayMode::Mono { legato: _ } => formed::held_with(notes, count, note),
+    }
+}
+
+// The Mono voice that sounds takes the note and keeps its handle.
+fn keep(found: Found, change: VoiceChange, n: usize, next: u64, held: Held) -> NoteOn
+    ensures { λ o. ⌜ o ≡ keptOn found change n next held ⌝ }
+{
+    let notes = held.notes;
+    NoteOn {
+        reply: Reply::Kept(found.handle),
+        spent: false,
+        place: found.place,
+        change,
+        taken: n,
+        adds: false,
+        count: n,
+        next,
+        notes,
+        held_count: held.count,
+    }
+}
+
+// No voice is changed; `next` is the next handle after it.
+fn stay(reply: Reply, spent: bool, n: usize, next: u64, held: Held) -> NoteOn
+    ensures { λ o. ⌜ o ≡ stayOn reply spent n next held ⌝ }
+{
+    let notes = held.notes;
+    NoteOn {
+        reply,
+        spent,
+        place: n,
+        change: VoiceChange::Kill,
+        taken: n,
+        adds: false,
+        count: n,
+        next,
+        notes,
+        held_count: held.count,
+    }
+}
+
+// A new voice, for which room is made: one voice more, or as many where one is taken out.
+fn spawn_voice(stolen: Stolen, n: usize, next: u64, held: Held) -> NoteOn
+    requires { ⌜ (n ≤ 64) × (next < lastHandle) ⌝ }
+    ensures { λ o. ⌜ o ≡ spawnOn stolen n next held ⌝ }
+{
+    let notes = held.notes;
+    let count = if stolen.taken < n { n } else { n + 1 };
+    let after = next + 1;
+    NoteOn {
+        reply: Reply::Started(next, stolen.killed_handle, stolen.taken_handle),
+        spent: false,
+        place: stolen.killed,
+        change: VoiceChange::Kill,
+        taken: stolen.taken,
+        adds: true,
+        count,
+        next: after,
+        notes,
+        held_count: held.count,
+    }
+}
+
 impl Instrument {
-    // A new voice with the next handle, for which room is made.
-    fn spawn_voice(self, held: Held, note: u8, velocity: f32) -> Outcome
-        requires { ⌜ (barredBy self ≡ 0) × (held .count ≤ 256) × (self .«next_handle» ≡ lastHandle → ⊥) ⌝ }
-        ensures { λ r. ⌜ Gives (startedNote (view self) (heldFirst (held .count) (held .notes)) note velocity) r ⌝ }
-    {
-        let next = self.next_handle;
-        let design = self.design;
-        let vs = self.voices;
-        let stolen = voices::steal::steal(vs, self.voice_count, design.max_voices as usize);
-        let count = stolen.count;
-        let table = stolen.voices;
-        let voice = voice::new_voice(design, self.bend, self.brightness, next, note, velocity);
-        let ws = voices::push(table, count, voice);
-        answered(
-            Reply::Started(next, stolen.killed, stolen.taken),
-            self.placed(ws, count + 1, next + 1, self.sustain, held),
-        )
-    }
-
-    // A new handle: silent where nothing was built, refused where none is left.
-    fn strike(self, held: Held, note: u8, velocity: f32, built: bool) -> Outcome
-        requires { ⌜ (barredBy self ≡ 0) × (held .count ≤ 256) ⌝ }
-        ensures { λ r. ⌜ StrikeAs self (heldFirst (held .count) (held .notes)) note velocity built r ⌝ }
-    {
-        let next = self.next_handle;
-        if next == 0xffff_ffff_ffff_ffff {
-            return refused(self, 8);
-        }
-        if built {
-            return self.spawn_voice(held, note, velocity);
-        }
-        let vs = self.voices;
-        let n = self.voice_count;
-        answered(
-            Reply::Silent(next),
-            self.placed(vs, n, next + 1, self.sustain, held),
-        )
-    }
-
-    // Mono: the voice that sounds takes the note, else a new one is struck.
-    fn mono_note_on(self, note: u8, velocity: f32, legato: bool, built: bool) -> Outcome
+    // What a note-on does: the Mono voice that sounds goes on, else a handle is due, with a voice where one was built.
+    fn on_of(self, note: u8, velocity: f32, built: bool) -> NoteOn
         requires { ⌜ barredBy self ≡ 0 ⌝ }
-        ensures { λ r. ⌜ MonoAs self legato note velocity built r ⌝ }
+        ensures { λ o. ⌜ OnAs self note velocity built o ⌝ }
     {
-        let notes = self.held;
-        let held = formed::held_with(notes, self.held_count, note);
-        let vs = self.voices;
-        let n = self.voice_count;
-        let k = voices::find_first(vs, n, VoiceTest::Sounding);
-        if n <= k {
-            return self.strike(held, note, velocity, built);
-        }
-        let v = vs[k];
         let design = self.design;
-        let change = VoiceChange::Keep(note, design.glide, legato, velocity);
-        let ws = voices::change_at(vs, n, k, change);
-        answered(
-            Reply::Kept(v.handle),
-            self.placed(ws, n, self.next_handle, self.sustain, held),
-        )
+        let mode = design.mode;
+        let n = self.voice_count;
+        let next = self.next_handle;
+        let notes = self.held;
+        let held = held_on(mode, notes, self.held_count, note);
+        if let PlayMode::Mono { legato } = mode {
+            let vs = self.voices;
+            let found = voices::find_first(vs, n, VoiceTest::Sounding);
+            if found.place < n {
+                let change = VoiceChange::Keep(note, design.glide, legato, velocity);
+                return keep(found, change, n, next, held);
+            }
+        }
+        if next == 0xffff_ffff_ffff_ffff {
+            return stay(Reply::Refused(8), true, n, next, held);
+        }
+        if !built {
+            return stay(Reply::Silent(next), false, n, next + 1, held);
+        }
+        let vs = self.voices;
+        let stolen = voices::steal::steal(vs, n, design.max_voices as usize);
+        spawn_voice(stolen, n, next, held)
     }
 
     // Starts a note, or goes on with the Mono voice; at velocity 0 it is a note-off.
-    pub fn note_on(self, note: u8, velocity: f32, built: bool) -> Outcome
+    pub fn note_on(mut self, note: u8, velocity: f32, built: bool) -> Outcome
         ensures { λ r. ⌜ CallAs self (Call.noteOn note velocity built) r ⌝ }
     {
         let barred = self.barred();
@@ -657,11 +684,32 @@ impl Instrument {
         if level == 0.0 {
             return self.off(note);
         }
-        let design = self.design;
-        let mode = design.mode;
-        match mode {
-            PlayMode::Poly => self.strike(self.holding(), note, level, built),
-            PlayMode::Mono { legato } => self.mono_note_on(note, level, legato, built),
+        let on = self.on_of(note, level, built);
+        if on.spent {
+            return refused(self, 8);
         }
+        let k = on.place;
+        let change = on.change;
+        if k < self.voice_count {
+            self.voices[k] = self.voices[k].changed(change);
+        }
+        let mut i = on.taken + 1;
+        while i < self.voice_count {
+            self.voices[i - 1] = self.voices[i];
+            i += 1;
+        }
+        if on.adds {
+            let design = self.design;
+            let next = self.next_handle;
+            let v = new_voice(design, self.bend, self.brightness, next, note, level);
+            self.voices[on.count - 1] = v;
+        }
+        let notes = on.notes;
+        self.held = notes;
+        self.held_count = on.held_count;
+        self.voice_count = on.count;
+        self.next_handle = on.next;
+        let reply = on.reply;
+        answered(reply, self)
     }
 }

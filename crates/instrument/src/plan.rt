@@ -83,25 +83,25 @@ fn side_by_side(left: usize, copies: usize) -> bool
 impl Instrument {
     // The host's values act on every copy, and the phases move on by the block.
     fn apply_modulation(mut self, frames: usize, vibrato: f32, filter: f32, sine: f32) -> Instrument
-        requires { ⌜ (frames ≤ 1024) × (rateFits (self .design .«sample_rate») ≡ true) ⌝ }
+        requires { ⌜ (frames ≤ 1024) × (rateFits (self .design .«sample_rate») ≡ true) × (self .«voice_count» ≤ 64) ⌝ }
         ensures { λ r. ⌜ StandsFor self (applied (view self) frames vibrato filter sine) r ⌝ }
     {
         let design = self.design;
         let m = design.modulation;
         let bend = self.bend * vibrato_factor(m, vibrato);
         let cutoff = self.brightness * filter_factor(m, filter);
-        let trem = tremolo_gain(m, sine);
+        let change = wobble(m, bend, cutoff);
+        let n = self.voice_count;
+        let mut i: usize = 0;
+        while i < n {
+            self.voices[i] = self.voices[i].changed(change);
+            i += 1;
+        }
         let step = step_of(frames, design.sample_rate);
-        let vib_phase = phase_on(self.vib_phase, m.vibrato_rate, step);
-        let flt_phase = phase_on(self.flt_phase, m.filter_rate, step);
-        let trem_phase = phase_on(self.trem_phase, m.tremolo_rate, step);
-        let vs = self.voices;
-        let ws = voices::change_all(vs, self.voice_count, wobble(m, bend, cutoff));
-        self.voices = ws;
-        self.vib_phase = vib_phase;
-        self.flt_phase = flt_phase;
-        self.trem_phase = trem_phase;
-        self.trem = trem;
+        self.vib_phase = phase_on(self.vib_phase, m.vibrato_rate, step);
+        self.flt_phase = phase_on(self.flt_phase, m.filter_rate, step);
+        self.trem_phase = phase_on(self.trem_phase, m.tremolo_rate, step);
+        self.trem = tremolo_gain(m, sine);
         self
     }
 

@@ -2,12 +2,12 @@
 -- Two facts of the order serve: it never holds both ways, and not being above is transitive.
 use mathlib.Core.Path.{_≡_, refl, ap, sym, _∙_}
 use mathlib.Core.Bool.{Bool, true, false, not, _&&_, _||_, cond}
-use mathlib.Core.List.{List, [], _∷_, _++_}
+use mathlib.Core.List.{List, [], _∷_, _++_, map}
 use Prim.Native.Nat.{ℕ, zero, suc, _+_, _≤_, _<_}
 use native.Mathlib.Omega.{arith}
 use borrow.Author.Tests.{leb-true, leb-false, ltb-true, ltb-false, eqb-true, eqb-false, eq-eqb, ne-eqb}
 use lib.Dec.{leb, ltb, eqb}
-use lib.ListN.{length, getD, take, length-append, List·getD-append}
+use lib.ListN.{length, getD, take, length-append, length-map, List·getD-map, List·getD-append}
 use lib.Seq.{length-take-le, getD-at, getD-take}
 use Rattle.lists.specs.Choose.{clash, chosen}
 use Rattle.lists.specs.Count.{oneIf, count, count-append, count-at}
@@ -198,3 +198,14 @@ module _ {A : Type 0} (d : A) (below : A → A → Bool) (p : A → Bool) where
         let low = lowest-le ys in
         let k : getD (ys ++ (getD xs i d ∷ [])) (lowest ys) d ≡ getD xs (lowest ys) d = ap (λ (l : List A). getD l (lowest ys) d) (sym e) ∙ getD-take (i + 1) xs (lowest ys) d (omega (arith, size, low)) in
         ap lowest e ∙ lowest-snoc ys (getD xs i d) ∙ rw (k, size)
+
+-- an order and a test that go through a view are those of the view
+pub lowest-map : {A B : Type 0} (f : A → B) (d : A) (below : A → A → Bool) (p : A → Bool) (under : B → B → Bool) (q : B → Bool)
+    → ((a b : A) → below a b ≡ under (f a) (f b)) → ((a : A) → p a ≡ q (f a)) → (xs : List A) → lowest d below p xs ≡ lowest (f d) under q (map f xs)
+lowest-map f d below p under q h g [] = refl
+lowest-map f d below p under q h g (a ∷ rest) =
+    let later = lowest-map f d below p under q h g rest in
+    let at : below (getD rest (lowest d below p rest) d) a ≡ under (getD (map f rest) (lowest (f d) under q (map f rest)) (f d)) (f a) =
+    h (getD rest (lowest d below p rest) d) a ∙ rw (later, List·getD-map f rest (lowest (f d) under q (map f rest)) d) in
+    let size : length rest ≡ length (map f rest) = rw length-map in
+    rw (g a, at, later, size)

@@ -3,12 +3,16 @@
 -- With w ≡ i it is a map in place; with w ≤ i it packs what it keeps.
 use mathlib.Core.Path.{_≡_, refl, ap, sym, _∙_}
 use mathlib.Core.List.{List, [], _∷_, _++_, map, map-append}
+use mathlib.Core.Bool.{Bool, true, false}
 use Prim.Native.Nat.{ℕ, _+_, _-_, _≤_, _<_}
 use native.Mathlib.Numerals.{add-one}
 use native.Mathlib.Omega.{arith}
-use lib.ListN.{length, take, drop, getD, set, length-set}
+use borrow.Author.Tests.{ltb-true, ltb-false}
+use lib.Dec.{ltb}
+use lib.ListN.{length, take, drop, getD, set, length-set, length-map, length-take}
 use lib.Seq.{take-suc-set, drop-set-lt, getD-drop, drop-drop}
 use Rattle.lists.specs.Prefix.{take-more}
+use Rattle.lists.specs.Places.{without, without-none, without-more, without-past, map-without}
 
 module _ {A : Type 0} where
   drop-next : (i : ℕ) (ws vs : List A) → drop i ws ≡ drop i vs → drop (i + 1) ws ≡ drop (i + 1) vs
@@ -61,3 +65,49 @@ module _ {A B C : Type 0} where
   pub maps-more : (g : B → C) (s : A → B) (xs : List A) (i : ℕ) (d : A) → i < length xs
       → map g (map s (take (i + 1) xs)) ≡ map g (map s (take i xs)) ++ (g (s (getD xs i d)) ∷ [])
   maps-more g s xs i d h = rw (take-more xs i d, map-append s, map-append g)
+
+-- A removal from the first n: those behind the element k move down one after the other, i is the next that moves. A k past them takes none out.
+module _ {A B : Type 0} where
+  pub record Moved (s : A → B) (k n i : ℕ) (ws vs : List A) : Type 0 where
+    pub pass : Pass s (without k (map s (take i vs))) (i - 1) i ws vs
+    pub behind : k + 1 ≤ i
+    pub within : k < n → i ≤ n
+    pub none : n ≤ k → ws ≡ vs
+
+  pub moved-start : (s : A → B) (k n : ℕ) (vs : List A) → Moved s k n (k + 1) vs vs
+  moved-start s k n vs =
+      let e : k + 1 - 1 ≡ k = omega arith in
+      let first : without k (map s (take (k + 1) vs)) ≡ map s (take k vs) = sym (map-without s k (take (k + 1) vs)) ∙ ap (map s) (without-none k vs) in
+      record { pass = rw (e, first) (pass-from s k (k + 1) vs (omega arith)); behind = omega arith; within = λ h. omega arith; none = λ _. refl }
+
+  module _ {s : A → B} {k n i : ℕ} {ws vs : List A} (m : Moved s k n i ws vs) (size : n ≤ length vs) where
+    pub moved-more : (d : A) → i < n → Moved s k n (i + 1) (set ws (i - 1) (getD ws i d)) vs
+    moved-more d h =
+        let b = m .behind in
+        let e : i + 1 - 1 ≡ i - 1 + 1 = omega arith in
+        let more : without k (map s (take (i + 1) vs)) ≡ without k (map s (take i vs)) ++ (s (getD vs i d) ∷ []) =
+        sym (map-without s k (take (i + 1) vs)) ∙ ap (map s) (without-more k i vs d (omega arith) (omega arith)) ∙ rw (map-append s, map-without s) in
+        record {
+          pass = rw (e, more) (pass-keep _ _ (ap s (pass-read d (m .pass))) (m .pass) (omega arith));
+          behind = omega arith;
+          within = λ _. omega arith;
+          none = λ z. let n : ⊥ = omega arith in absurd n;
+        }
+
+    pub moved-end : n ≤ i → map s (take (length (without k (map s (take n vs)))) ws) ≡ without k (map s (take n vs))
+    moved-end h = by (ltb k n) refl
+      where
+        by : (b : Bool) → ltb k n ≡ b → map s (take (length (without k (map s (take n vs)))) ws) ≡ without k (map s (take n vs))
+        by true q =
+            let k-in : k < n = ltb-true k n q in
+            let w = m .within k-in in
+            let e : i ≡ n = omega arith in
+            let front : map s (take (n - 1) ws) ≡ without k (map s (take n vs)) = rw e at (m .pass .front) in
+            let z = m .pass .size in
+            let long : length (map s (take (n - 1) ws)) ≡ n - 1 = simp (length-map, length-take) (omega arith) in
+            ap (λ (j : ℕ). map s (take j ws)) (ap length (sym front) ∙ long) ∙ front
+        by false q =
+            let k-past : n ≤ k = ltb-false k n q in
+            let long : length (map s (take n vs)) ≡ n = simp (length-map, length-take) (omega arith) in
+            let past : without k (map s (take n vs)) ≡ map s (take n vs) = without-past k (map s (take n vs)) (omega arith) in
+            rw (past, long, m .none k-past)

@@ -1,7 +1,7 @@
 -- Places in a list, a list without one element, those that pass a test.
-use mathlib.Core.Path.{_≡_, refl, ap, sym, _∙_}
+use mathlib.Core.Path.{_≡_, refl, ap}
 use mathlib.Core.Bool.{Bool, true, false, not, cond}
-use mathlib.Core.List.{List, [], _∷_, _++_, map, append-nil, append-assoc}
+use mathlib.Core.List.{List, [], _∷_, _++_, map}
 use Prim.Native.Nat.{ℕ, zero, suc, _+_, _≤_, _<_}
 use native.Mathlib.Omega.{arith}
 use native.Mathlib.Numerals.{add-one}
@@ -91,6 +91,11 @@ module _ {A : Type 0} where
   pub without-more : (k i : ℕ) (xs : List A) (d : A) → k < i → i < length xs
       → without k (take (i + 1) xs) ≡ without k (take i xs) ++ (getD xs i d ∷ [])
   without-more k i xs d h l = rw (take-more xs i d) (without-append k (take i xs) (getD xs i d ∷ []) (simp length-take (omega arith)))
+
+  pub without-length : (k : ℕ) (l : List A) → k < length l → length (without k l) + 1 ≡ length l
+  without-length k [] h = let z : ⊥ = omega arith in absurd z
+  without-length zero (x ∷ l) h = omega arith
+  without-length (suc k) (x ∷ l) h = let r = without-length k l (omega arith) in omega arith
 
   -- nothing stands past the end
   pub without-past : (k : ℕ) (l : List A) → length l ≤ k → without k l ≡ l

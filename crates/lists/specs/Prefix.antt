@@ -8,7 +8,7 @@ use mathlib.Core.Bool.{Bool, true, false}
 use borrow.Author.Tests.{leb-true, leb-false, ltb-true, ltb-false}
 use lib.Dec.{leb, ltb}
 use lib.ListN.{length, take, drop, getD, set, length-append, length-take, length-drop, length-map, List·getD-map, List·getD-append}
-use lib.Seq.{take-all, drop-cons, take-suc, getD-take, getD-at, set-at, take-at, take-set-lt}
+use lib.Seq.{take-all, drop-cons, take-suc, take-suc-set, getD-take, getD-at, set-at, take-at, take-set-lt}
 
 module _ {A : Type 0} where
   pub take-more : (xs : List A) (i : ℕ) (d : A) → i < length xs → take (i + 1) xs ≡ take i xs ++ (getD xs i d ∷ [])
@@ -82,6 +82,10 @@ module _ {A B : Type 0} where
 
   pub shown-set : (f : A → B) (n : ℕ) (xs : List A) (i : ℕ) (a : A) → i < n → map f (take n (set xs i a)) ≡ set (map f (take n xs)) i (f a)
   shown-set f n xs i a h = rw (take-set-lt n xs i a) (map-set f (take n xs) i a)
+
+  -- one more, stored behind the first n
+  pub shown-push : (f : A → B) (n : ℕ) (xs : List A) (a : A) → n < length xs → map f (take (n + 1) (set xs n a)) ≡ map f (take n xs) ++ (f a ∷ [])
+  shown-push f n xs a h = rw (add-one, take-suc-set xs n a, map-append f)
 
   pub shown-any : (f : A → B) (n : ℕ) (xs : List A) (i : ℕ) (d : A) (e : B) → n ≤ length xs → i < n → getD (map f (take n xs)) i e ≡ f (getD xs i d)
   shown-any f n xs i d e hn hi =

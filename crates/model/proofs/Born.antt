@@ -1,14 +1,14 @@
 -- The table that a new voice meets has room for it; whom it kills and whom it takes out.
 use mathlib.Core.Path.{_≡_, refl, ap, sym, _∙_}
 use mathlib.Core.Bool.{Bool, true, false, not, _&&_, Bool·beq, cond}
-use mathlib.Core.List.{List, [], _∷_, _++_}
+use mathlib.Core.List.{List, [], _∷_}
 use mathlib.Core.Logic.{_≢_}
 use Prim.Native.Nat.{ℕ, zero, suc, _+_, _*_, _≤_, _<_}
 use native.Mathlib.Omega.{arith}
 use borrow.Author.Tests.{leb-true, leb-false, eq-eqb}
 use lib.Dec.{eqb}
 use lib.Ieee.{Float}
-use lib.ListN.{length, getD, set, List·getD-map, length-append}
+use lib.ListN.{length, getD, List·getD-map}
 use lib.Seq.{map-set-same}
 use Rattle.float32.specs.Order.{below}
 use Rattle.envelope.specs.declared.EnvGen.{EnvGen}
@@ -104,15 +104,15 @@ killed-silent : (v : Voice) → sounding (killedVoice v) ≡ false
 unfolding killedVoice withVoice
 killed-silent v = refl
 
-killed-level : (v : Voice) → killedVoice v .env .level ≡ v .env .level
+pub killed-level : (v : Voice) → killedVoice v .env .level ≡ v .env .level
 unfolding killedVoice withVoice killed withRelease
 killed-level v = off-level (withRelease (v .env) _)
 
-killed-handle : (v : Voice) → killedVoice v .handle ≡ v .handle
+pub killed-handle : (v : Voice) → killedVoice v .handle ≡ v .handle
 unfolding killedVoice withVoice
 killed-handle v = refl
 
-changed-same : {B : Type 0} (f : Voice → B) → ((v : Voice) → f (killedVoice v) ≡ f v) → (k : ℕ) (vs : List Voice) (j : ℕ)
+pub changed-same : {B : Type 0} (f : Voice → B) → ((v : Voice) → f (killedVoice v) ≡ f v) → (k : ℕ) (vs : List Voice) (j : ℕ)
     → f (getD (changed killedVoice k vs) j noVoice) ≡ f (getD vs j noVoice)
 changed-same {B} f e k vs j =
     sym (List·getD-map f (changed killedVoice k vs) j noVoice)

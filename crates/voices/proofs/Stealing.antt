@@ -1,126 +1,147 @@
--- The ways out of the functions that make room.
+-- One look at a table finds the voices that make room.
 use mathlib.Core.Path.{_≡_, refl, ap, sym, _∙_}
-use mathlib.Core.Bool.{true, false, _&&_}
-use mathlib.Core.List.{List, [], _∷_}
-use Prim.Native.Nat.{ℕ, zero, suc, _*_, _-_, _≤_, _<_}
+use mathlib.Core.Bool.{Bool, true, false, cond}
+use mathlib.Core.List.{List, [], _∷_, map}
+use Prim.Native.Nat.{ℕ, _+_, _*_, _/_, _≤_, _<_}
 use native.Mathlib.Omega.{arith}
-use borrow.Author.Tests.{le-leb, lt-leb}
+use borrow.Author.Tests.{le-leb, lt-leb, leb-true, leb-false}
 use lib.Dec.{leb}
-use lib.ListN.{length, getD, set, List·getD-eq-default}
-use Rattle.lists.specs.Choose.{cond-true, cond-false, both}
+use lib.Ieee.{Float}
+use lib.ListN.{length, take, getD, length-take, length-set, List·getD-eq-default}
+use Rattle.float32.specs.Order.{below}
+use Rattle.lists.specs.Choose.{chosen, cond-true, cond-false}
 use Rattle.lists.specs.Count.{count}
-use Rattle.lists.specs.Least.{lowest-is}
-use Rattle.lists.specs.Places.{without, without-past, map-without}
-use Rattle.model.specs.Types as model
-use Rattle.model.specs.Voices.{killedVoice, sounding, anyVoice, quieter, changed, handleAt, quietestSounding, quietest}
+use Rattle.lists.specs.Least.{lowest, lowestNext, lowest-more, lowest-le, lowest-is, lowest-map}
+use Rattle.lists.specs.Lone.{set-past}
+use Rattle.lists.specs.Places.{without, without-past}
+use lib.Seq.{map-set-same}
+use Rattle.model.specs.Types.{Voice, noVoice, Model}
+use Rattle.model.specs.Formed.{max}
+use Rattle.model.specs.Voices.{sounding, anyVoice, quieter, killedVoice, changed, handleAt, quietestSounding, quietest}
 use Rattle.model.specs.Notes.{full, afterKill, killedHandle, crowded, afterTaking, takenHandle}
-use Rattle.voice.specs.declared.Voice.{Voice}
-use Rattle.voices.specs.declared.steal.Killed.{Killed}
-use Rattle.voices.specs.declared.steal.Taken.{Taken}
-use Rattle.voice.specs.View.{Seen}
-use Rattle.voices.specs.View.{seenFirst, voicesOf, inRoom}
-use Rattle.voice.specs.Changes.{onSeen, noSeen}
-use Rattle.voices.specs.Changes.{changed-seen, room-set}
-use Rattle.voices.specs.Steal.{killedIn, killedFrom, takenIn, takenFrom, KilledFrom, TakenFrom, Meets, StolenFrom}
-use Rattle.voices.proofs.Table.{table, table-size, quieter-order}
+use Rattle.model.proofs.Born.{killed-level, killed-handle, changed-same}
+use Rattle.voices.specs.declared.steal.Stolen.{Stolen}
+use Rattle.voices.specs.Steal.{killedAt, takenAt, StolenFrom}
+use Rattle.voices.proofs.Table.{quieter-order}
 
--- a removal leaves the others
-room-without : (k : ℕ) (l : List Seen) → inRoom l ≡ true → inRoom (without k l) ≡ true
-room-without k [] e = refl
-room-without zero (x ∷ l) e = both (leb (x .count) 8) (inRoom l) e .1
-room-without (suc k) (x ∷ l) e =
-    let h = both (leb (x .count) 8) (inRoom l) e in
-    rw (h .0) (room-without k l (h .1))
+-- the place of the quietest among one voice more
+pub quietest-step : (p : Voice → Bool) (xs : List Voice) (i k r : ℕ) (passes under : Bool) → i < length xs → k ≡ lowest noVoice quieter p (take i xs)
+    → passes ≡ p (getD xs i noVoice) → under ≡ quieter (getD xs i noVoice) (getD xs k noVoice) → r ≡ lowestNext i k passes under
+    → (r ≡ lowest noVoice quieter p (take (i + 1) xs)) × (r ≤ i + 1)
+quietest-step p xs i k r passes under h e a b q =
+    let more = lowest-more noVoice quieter p quieter-order xs i h in
+    let next = rw (← e, ← a, ← b) at more in
+    let is : r ≡ lowest noVoice quieter p (take (i + 1) xs) = q ∙ sym next in
+    let le = lowest-le noVoice quieter p (take (i + 1) xs) in
+    let short = length-take (i + 1) xs in
+    (is, omega (arith, is, le, short))
 
-count-any : (l : List model.Voice) → count anyVoice l ≡ length l
+-- half of a count reaches max where the count reaches twice max
+half : (max m : ℕ) → leb max (m / 2) ≡ leb (2 * max) m
+half max m = by (leb max (m / 2)) refl
+  where
+    by : (b : Bool) → leb max (m / 2) ≡ b → leb max (m / 2) ≡ leb (2 * max) m
+    by true e = let h = leb-true max (m / 2) e in e ∙ sym (le-leb (2 * max) m (omega (arith, h)))
+    by false e = let h = leb-false max (m / 2) e in e ∙ sym (lt-leb (2 * max) m (omega (arith, h)))
+
+pub stolen : (l : List Voice) (max m c k q : ℕ) (r : Stolen) → m ≡ length l → c ≡ count sounding l → k ≡ quietestSounding l → q ≡ quietest l
+    → r .killed ≡ cond (leb max c) k m → r .taken ≡ cond (leb max (m / 2)) q m → r .«killed_handle» ≡ handleAt (r .killed) l → r .«taken_handle» ≡ handleAt (r .taken) l
+    → StolenFrom l max r
+stolen l max m c k q r em ec ek eq a b x y =
+    let killed = rw (ec, ek, em) at a in
+    let taken = rw (half max m, eq, em) at b in
+    record {
+      killed = killed;
+      killedHandle = x ∙ ap (λ (i : ℕ). handleAt i l) killed;
+      taken = taken;
+      takenHandle = y ∙ ap (λ (i : ℕ). handleAt i l) taken;
+    }
+
+count-any : (l : List Voice) → count anyVoice l ≡ length l
 count-any [] = refl
 count-any (x ∷ l) = let h = count-any l in omega arith
 
--- the quietest of all is a place of a table that is not empty
-quietest-inside : (l : List model.Voice) → 1 ≤ length l → quietest l < length l
+pub taken-le : (max : ℕ) (l : List Voice) → takenAt max l ≤ length l
 unfolding quietest
-quietest-inside l h = lowest-is model.noVoice quieter anyVoice quieter-order l (let c = count-any l in omega arith) .inside
+taken-le max l = chosen (λ (k : ℕ). k ≤ length l) (leb (2 * max) (length l)) _ _ (λ _. lowest-le noVoice quieter anyVoice l) (λ _. omega arith)
 
-module _ (vs : List Voice) (n max : ℕ) where
-  pub kill-none : count sounding (table n vs) < max → KilledFrom vs n max (record { voices = vs; handle = 0 })
-  kill-none h =
-      let f = lt-leb max (count sounding (table n vs)) h in
-      record { table = sym (cond-false _ _ _ f); killed = sym (cond-false _ _ _ f); room = refl }
+-- where 2 × max voices stand, one of them is taken out
+pub taken-inside : (max : ℕ) (l : List Voice) → 1 ≤ max → 2 * max ≤ length l → takenAt max l < length l
+unfolding quietest
+taken-inside max l o h =
+    let c = count-any l in
+    rw (le-leb (2 * max) (length l) h) (lowest-is noVoice quieter anyVoice quieter-order l (omega arith) .inside)
 
-  pub kill-first : (k : ℕ) (ws : List Voice) (h : ℕ) → max ≤ count sounding (table n vs) → k ≡ quietestSounding (table n vs)
-      → seenFirst n ws ≡ set (seenFirst n vs) k (onSeen killedVoice (getD (seenFirst n vs) k noSeen)) → h ≡ handleAt k (table n vs)
-      → KilledFrom vs n max (record { voices = ws; handle = h })
-  kill-first k ws h m e s q =
-      let f = le-leb max (count sounding (table n vs)) m in
-      record {
-        table = ap voicesOf s ∙ changed-seen killedVoice k (seenFirst n vs) ∙ ap (λ (j : ℕ). changed killedVoice j (table n vs)) e ∙ sym (cond-true _ _ _ f);
-        killed = q ∙ ap (λ (j : ℕ). handleAt j (table n vs)) e ∙ sym (cond-true _ _ _ f);
-        room = ap inRoom s ∙ room-set killedVoice k (seenFirst n vs);
-      }
+-- ---- the table after both
 
-  module _ (len : length vs ≡ 64) where
-    size : n ≤ 64 → length (table n vs) ≡ n
-    size h = let s = table-size n vs len in omega arith
+abbrev level : Voice → Float
+level v = v .env .level
 
-    pub take-none : n < 2 * max → TakenFrom vs n max (record { voices = vs; count = n; handle = 0 })
-    take-none h =
-        let f : n ≤ 64 → leb (2 * max) (length (table n vs)) ≡ false = λ b. lt-leb (2 * max) (length (table n vs)) (let s = size b in omega arith) in
-        record {
-          table = λ b. sym (cond-false _ _ _ (f b));
-          taken = λ b. sym (cond-false _ _ _ (f b));
-          room = λ b e. e;
-          less = λ b _ _. h;
-          most = omega arith;
-        }
+-- a kill leaves the levels
+quietest-kill : (k : ℕ) (l : List Voice) → quietest (changed killedVoice k l) ≡ quietest l
+unfolding quietest quieter
+quietest-kill k l =
+    by-level (changed killedVoice k l)
+    ∙ ap (lowest (level noVoice) below (λ (x : Float). true)) (map-set-same level l k (killedVoice (getD l k noVoice)) noVoice (killed-level (getD l k noVoice)))
+    ∙ sym (by-level l)
+  where
+    by-level : (xs : List Voice) → lowest noVoice quieter anyVoice xs ≡ lowest (level noVoice) below (λ (x : Float). true) (map level xs)
+    by-level xs = lowest-map level noVoice quieter anyVoice below (λ (x : Float). true) (λ a b. refl) (λ a. refl) xs
 
-    module _ (m : 2 * max ≤ n) (k : ℕ) (e : k ≡ quietest (table n vs)) where
-      crowd : n ≤ 64 → leb (2 * max) (length (table n vs)) ≡ true
-      crowd b = le-leb (2 * max) (length (table n vs)) (let s = size b in omega arith)
+module _ (m : Model) where
+  abbrev killing : ℕ
+  killing = killedAt (max m) (m .voices)
 
-      -- the quietest is past the end of an empty table alone
-      pub take-empty : n ≤ k → TakenFrom vs n max (record { voices = vs; count = n; handle = 0 })
-      take-empty h =
-          record {
-            table = λ b. sym (cond-true _ _ _ (crowd b) ∙ without-past (quietest (table n vs)) (table n vs) (let s = size b in omega arith));
-            taken = λ b. sym (cond-true _ _ _ (crowd b) ∙ ap (λ (v : model.Voice). v .handle) (List·getD-eq-default (table n vs) model.noVoice (let s = size b in omega arith)));
-            room = λ b e. e;
-            less = λ b o _. let s = size b in let i = quietest-inside (table n vs) (omega arith) in let z : ⊥ = omega arith in absurd z;
-            most = omega arith;
-          }
+  abbrev taking : ℕ
+  taking = takenAt (max m) (m .voices)
 
-      pub take-first : (ws : List Voice) (h : ℕ) → k < n → (k < n → n ≤ 64 → seenFirst (n - 1) ws ≡ without k (seenFirst n vs)) → h ≡ handleAt k (table n vs)
-          → TakenFrom vs n max (record { voices = ws; count = n - 1; handle = h })
-      take-first ws h i s q =
-          record {
-            table = λ b. ap voicesOf (s i b) ∙ map-without (λ (x : Seen). x .voice) k (seenFirst n vs) ∙ ap (λ (j : ℕ). without j (table n vs)) e ∙ sym (cond-true _ _ _ (crowd b));
-            taken = λ b. q ∙ ap (λ (j : ℕ). handleAt j (table n vs)) e ∙ sym (cond-true _ _ _ (crowd b));
-            room = λ b r. ap inRoom (s i b) ∙ room-without k (seenFirst n vs) r;
-            less = λ b o t. omega arith;
-            most = omega arith;
-          }
+  after-kill : changed killedVoice killing (m .voices) ≡ afterKill m
+  unfolding afterKill full
+  after-kill = by (leb (max m) (count sounding (m .voices))) refl
+    where
+      by : (b : Bool) → leb (max m) (count sounding (m .voices)) ≡ b → changed killedVoice killing (m .voices) ≡ afterKill m
+      by true e = rw e
+      by false e = rw e (set-past (m .voices) (length (m .voices)) _ (omega arith))
 
-  -- the steps on a list are the model's
-  module _ (m : model.Model) (t : Meets m vs n max) where
-    table-after : takenIn max (killedIn max (table n vs)) ≡ afterTaking m
-    unfolding afterTaking crowded afterKill full
-    table-after = rw (t .voices, t .most)
+  after-size : length (afterKill m) ≡ length (m .voices)
+  after-size = ap length (sym after-kill) ∙ length-set (m .voices) killing _
 
-    killed-is : killedFrom max (table n vs) ≡ killedHandle m
-    unfolding killedHandle full
-    killed-is = rw (t .voices, t .most)
+  same-crowd : crowded m ≡ leb (2 * max m) (length (m .voices))
+  unfolding crowded
+  same-crowd = ap (leb (2 * max m)) after-size
 
-    taken-is : takenFrom max (killedIn max (table n vs)) ≡ takenHandle m
-    unfolding takenHandle crowded afterKill full
-    taken-is = rw (t .voices, t .most)
+  same-quietest : quietest (afterKill m) ≡ quietest (m .voices)
+  same-quietest = ap quietest (sym after-kill) ∙ quietest-kill killing (m .voices)
 
-  pub steal-both : (a : Killed) (b : Taken) → KilledFrom vs n max a → TakenFrom (a .voices) n max b
-      → StolenFrom vs n max (record { voices = b .voices; count = b .count; killed = a .handle; taken = b .handle })
-  steal-both a b p q =
-      record {
-        table = λ m t. q .table (t .size) ∙ ap (takenIn max) (p .table) ∙ table-after m t;
-        killed = λ m t. p .killed ∙ killed-is m t;
-        taken = λ m t. q .taken (t .size) ∙ ap (takenFrom max) (p .table) ∙ taken-is m t;
-        room = λ h e. q .room h (p .room ∙ e);
-        less = q .less;
-        most = q .most;
-      }
+  pub room-made : without taking (changed killedVoice killing (m .voices)) ≡ afterTaking m
+  unfolding afterTaking
+  room-made = ap (without taking) after-kill ∙ by (leb (2 * max m) (length (m .voices))) refl
+    where
+      by : (b : Bool) → leb (2 * max m) (length (m .voices)) ≡ b → without taking (afterKill m) ≡ afterTaking m
+      by true e = ap (λ (k : ℕ). without k (afterKill m)) (cond-true _ _ _ e ∙ sym same-quietest) ∙ sym (cond-true _ _ _ (same-crowd ∙ e))
+      by false e = ap (λ (k : ℕ). without k (afterKill m)) (cond-false _ _ _ e) ∙ without-past (length (m .voices)) (afterKill m) (let s = after-size in omega arith) ∙ sym (cond-false _ _ _ (same-crowd ∙ e))
+
+  no-handle : 0 ≡ handleAt (length (m .voices)) (m .voices)
+  no-handle = sym (ap (λ (v : Voice). v .handle) (List·getD-eq-default (m .voices) noVoice (omega arith)))
+
+  pub killed-is : handleAt killing (m .voices) ≡ killedHandle m
+  unfolding killedHandle full
+  killed-is = by (leb (max m) (count sounding (m .voices))) refl
+    where
+      by : (b : Bool) → leb (max m) (count sounding (m .voices)) ≡ b → handleAt killing (m .voices) ≡ killedHandle m
+      by true e = rw e
+      by false e = rw e (sym no-handle)
+
+  pub taken-is : handleAt taking (m .voices) ≡ takenHandle m
+  unfolding takenHandle
+  taken-is = by (leb (2 * max m) (length (m .voices))) refl
+    where
+      same : handleAt (quietest (afterKill m)) (afterKill m) ≡ handleAt (quietest (m .voices)) (m .voices)
+      same =
+          ap (λ (k : ℕ). handleAt k (afterKill m)) same-quietest
+          ∙ ap (handleAt (quietest (m .voices))) (sym after-kill)
+          ∙ changed-same (λ (v : Voice). v .handle) killed-handle killing (m .voices) (quietest (m .voices))
+
+      by : (b : Bool) → leb (2 * max m) (length (m .voices)) ≡ b → handleAt taking (m .voices) ≡ takenHandle m
+      by true e = ap (λ (k : ℕ). handleAt k (m .voices)) (cond-true _ _ _ e) ∙ sym same ∙ sym (cond-true _ _ _ (same-crowd ∙ e))
+      by false e = ap (λ (k : ℕ). handleAt k (m .voices)) (cond-false _ _ _ e) ∙ sym no-handle ∙ sym (cond-false _ _ _ (same-crowd ∙ e))

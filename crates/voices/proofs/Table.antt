@@ -2,14 +2,14 @@
 use mathlib.Core.Path.{_≡_, ap, sym, _∙_}
 use mathlib.Core.List.{List}
 use native.Mathlib.Nat.{mul-add}
-use Prim.Native.Nat.{ℕ, _+_, _*_, _<_, min}
+use Prim.Native.Nat.{ℕ, _+_, _*_, _<_, _≤_, min}
 use native.Mathlib.Omega.{arith}
-use lib.ListN.{length, drop, getD, length-map, length-take, List·getD-map}
+use lib.ListN.{length, drop, getD, length-map, length-take, List·getD-map, List·getD-eq-default}
 use Rattle.float32.proofs.Ordering.{level-order}
 use Rattle.lists.specs.Least.{Ordered}
 use Rattle.lists.specs.Prefix.{drop-more, shown-at}
 use Rattle.model.specs.Types as model
-use Rattle.model.specs.Voices.{quieter, copiesIn}
+use Rattle.model.specs.Voices.{quieter, copiesIn, handleAt}
 use Rattle.voice.specs.declared.Voice.{Voice}
 use Rattle.voice.specs.View.{shown, Seen, seen}
 use Rattle.voices.specs.View.{seenFirst, voicesOf}
@@ -31,6 +31,13 @@ module _ (n : ℕ) (vs : List Voice) where
   pub table-at : (i : ℕ) → i < n → getD (table n vs) i model.noVoice ≡ shown (getD vs i pastEnd)
   unfolding seen
   table-at i h = List·getD-map (λ (x : Seen). x .voice) (seenFirst n vs) i noSeen ∙ ap (λ (x : Seen). x .voice) (seen-at i h)
+
+  pub handle-at : (i : ℕ) → i < n → getD vs i pastEnd .handle ≡ handleAt i (table n vs)
+  unfolding shown
+  handle-at i h = sym (ap (λ (v : model.Voice). v .handle) (table-at i h))
+
+  pub handle-past : (i : ℕ) → length (table n vs) ≤ i → 0 ≡ handleAt i (table n vs)
+  handle-past i h = sym (ap (λ (v : model.Voice). v .handle) (List·getD-eq-default (table n vs) model.noVoice h))
 
 -- the order of levels is one of voices
 pub quieter-order : Ordered quieter

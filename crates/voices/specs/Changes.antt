@@ -1,10 +1,12 @@
 -- A change of a table's voices, as the model has it.
 use mathlib.Core.Path.{_≡_, refl, ap, sym, _∙_}
-use mathlib.Core.Bool.{_&&_}
+use mathlib.Core.Bool.{true, _&&_}
 use mathlib.Core.List.{List, [], _∷_, map}
 use Prim.Native.Nat.{ℕ, zero, suc}
 use lib.Dec.{leb}
 use lib.ListN.{getD, set, List·getD-map}
+use Rattle.lists.specs.Choose.{both}
+use Rattle.lists.specs.Places.{without}
 use Rattle.lists.specs.Prefix.{map-set, map-through}
 use Rattle.model.specs.Types as model
 use Rattle.model.specs.Voices.{changed}
@@ -35,3 +37,11 @@ unfolding onSeen
 room-set f k [] = refl
 room-set f zero (x ∷ l) = refl
 room-set f (suc k) (x ∷ l) = ap (_&&_ (leb (x .count) 8)) (room-set f k l)
+
+-- a removal leaves the others
+pub room-without : (k : ℕ) (l : List Seen) → inRoom l ≡ true → inRoom (without k l) ≡ true
+room-without k [] e = refl
+room-without zero (x ∷ l) e = both (leb (x .count) 8) (inRoom l) e .1
+room-without (suc k) (x ∷ l) e =
+    let h = both (leb (x .count) 8) (inRoom l) e in
+    rw (h .0) (room-without k l (h .1))

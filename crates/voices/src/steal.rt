@@ -1,107 +1,75 @@
-// Room for a new voice (the Rust's `spawn_voice`, up to its push).
+// The voices that make room for a new one (the Rust's `spawn_voice`, up to its push).
 
 ghost use mathlib.Core.Path.{_≡_};
-ghost use Rattle.model.specs.Voices.{handleAt};
+ghost use mathlib.Core.Bool.{cond};
+ghost use Prim.Native.Nat.{_<_};
+ghost use Rattle.lists.specs.Least.{lowestNext};
 ghost use Rattle.voices.specs.View.{seenFirst, voicesOf};
-ghost use Rattle.voices.specs.Steal.{KilledFrom, TakenFrom, StolenFrom};
-use crate::change_at;
-use crate::count_of;
-use crate::quietest;
-use crate::remove_at;
+ghost use Rattle.voices.specs.Steal.{StolenFrom};
+use crate::one_if;
 use crate::room;
 use voice::Voice;
-use voice::VoiceChange;
 use voice::VoiceTest;
 
-// A table and the handle of the voice killed, or 0.
-struct Killed {
-    voices: [Voice; 64],
-    handle: u64,
-}
-
-// A table with its count and the handle of the voice taken out, or 0.
-struct Taken {
-    voices: [Voice; 64],
-    count: usize,
-    handle: u64,
-}
-
+// The voice that is killed and the voice that is taken out: their places, the table's count where there is none, and their
+// handles, 0 where there is none.
 pub struct Stolen {
-    pub voices: [Voice; 64],
-    pub count: usize,
-    // The handles of the voice killed and of the voice taken out, each 0 where there is none.
-    pub killed: u64,
-    pub taken: u64,
+    pub killed: usize,
+    pub killed_handle: u64,
+    pub taken: usize,
+    pub taken_handle: u64,
 }
 
-// The handle of the voice at k, and 0 past the table.
-fn handle_at(vs: [Voice; 64], n: usize, k: usize) -> u64
-    ensures { λ r. ⌜ r ≡ handleAt k (voicesOf (seenFirst n vs)) ⌝ }
+// The quietest of the first i voices is at k, with k at i where there is none. This is its place among one more,
+// by whether that one passes the test and whether it is below the voice at k.
+fn quietest_next(i: usize, k: usize, passes: bool, under: bool) -> usize
+    requires { ⌜ i < 64 ⌝ }
+    ensures { λ r. ⌜ r ≡ lowestNext i k passes under ⌝ }
 {
-    if room(n) <= k {
-        return 0;
+    if passes {
+        if under {
+            return i;
+        }
+        return k;
     }
-    let v = vs[k];
-    v.handle
+    if k == i { i + 1 } else { k }
 }
 
-// Where max voices are not releasing, the quietest of them is killed.
-fn kill_one(vs: [Voice; 64], n: usize, max: usize) -> Killed
-    ensures { λ r. ⌜ KilledFrom vs n max r ⌝ }
+// A place where it is asked for, else the end.
+fn place_if(asked: bool, k: usize, end: usize) -> usize
+    ensures { λ r. ⌜ r ≡ cond asked k end ⌝ }
 {
-    if count_of(vs, n, VoiceTest::Sounding) < max {
-        return Killed {
-            voices: vs,
-            handle: 0,
-        };
-    }
-    let k = quietest(vs, n, VoiceTest::Sounding);
-    let handle = handle_at(vs, n, k);
-    let voices = change_at(vs, n, k, VoiceChange::Kill);
-    Killed { voices, handle }
+    if asked { k } else { end }
 }
 
-// Where 2 × max voices stand, the quietest of all is taken out. An empty table has none.
-fn take_one(vs: [Voice; 64], n: usize, max: usize) -> Taken
-    ensures { λ r. ⌜ TakenFrom vs n max r ⌝ }
-{
-    if n / 2 < max {
-        return Taken {
-            voices: vs,
-            count: n,
-            handle: 0,
-        };
-    }
-    let k = quietest(vs, n, VoiceTest::Any);
-    if n <= k {
-        return Taken {
-            voices: vs,
-            count: n,
-            handle: 0,
-        };
-    }
-    let handle = handle_at(vs, n, k);
-    let voices = remove_at(vs, n, k);
-    Taken {
-        voices,
-        count: n - 1,
-        handle,
-    }
-}
-
-// Makes room for a voice: where max voices are not releasing the quietest of them is killed; then where 2 × max
-// voices stand the quietest of all is taken out.
+// Where max voices are not releasing the quietest of them is killed; then where 2 × max voices stand the quietest of all is
+// taken out. A kill leaves the levels, so one look at the table finds both.
 pub fn steal(vs: [Voice; 64], n: usize, max: usize) -> Stolen
-    ensures { λ r. ⌜ StolenFrom vs n max r ⌝ }
+    ensures { λ r. ⌜ StolenFrom (voicesOf (seenFirst n vs)) max r ⌝ }
 {
-    let a = kill_one(vs, n, max);
-    let ws = a.voices;
-    let b = take_one(ws, n, max);
-    let voices = b.voices;
+    let m = room(n);
+    let mut sounding: usize = 0;
+    let mut k: usize = 0;
+    let mut q: usize = 0;
+    let mut i: usize = 0;
+    while i < m {
+        let v = vs[i];
+        let a = vs[k];
+        let b = vs[q];
+        let sounds = v.passes(VoiceTest::Sounding);
+        k = quietest_next(i, k, sounds, float32::total_below(v.env.level, a.env.level));
+        q = quietest_next(i, q, true, float32::total_below(v.env.level, b.env.level));
+        sounding += one_if(sounds);
+        i += 1;
+    }
+    let killed = place_if(max <= sounding, k, m);
+    let taken = place_if(max <= m / 2, q, m);
+    let killed_handle = if killed < m { vs[killed].handle } else { 0 };
+    let taken_handle = if taken < m { vs[taken].handle } else { 0 };
     Stolen {
-        voices,
-        count: b.count,
-        killed: a.handle,
-        taken: b.handle,
+        killed,
+        killed_handle,
+        taken,
+        taken_handle,
     }
 }

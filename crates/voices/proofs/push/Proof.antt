@@ -1,10 +1,8 @@
 use mathlib.Core.Path.{_≡_}
-use mathlib.Core.List.{map-append}
 use native.Mathlib.Omega.{arith}
-use native.Mathlib.Numerals.{add-one}
 use borrow.Author.Needs.{needs}
 use lib.ListN.{length}
-use lib.Seq.{take-suc-set}
+use Rattle.lists.specs.Prefix.{shown-push}
 use Rattle.voice.specs.View.{seen}
 use Rattle.voices.proofs.push.Statement.{statement}
 use Rattle.voices.proofs.push.Tie as tie
@@ -23,7 +21,7 @@ returns-2 c =
     λ h.
     let a = c .before .args in
     let len : length (a .vs) ≡ 64 = c .before .good .0 .1 .0 .1 in
-    rw (add-one, take-suc-set (a .vs) (a .n) (a .v) (omega arith), map-append seen)
+    shown-push seen (a .n) (a .vs) (a .v) (omega arith)
 
 pub push-spec : {M : Type 1} → statement M
 push-spec = tie.close (tie.spec returns mul-ws array-set-from-ws returns-2)

@@ -1,105 +1,256 @@
-use Rattle.instrument.proofs.Ons.{strike-for, mono-for, holding-few}
-use mathlib.Core.Path.{refl, sym, _∙_}
-use Rattle.instrument.proofs.Calls.{free, barred-call}
-use Rattle.instrument.proofs.Ons.{off-is, on-off, on-poly, on-mono}
+use mathlib.Core.Path.{_≡_, refl, ap, sym, subst, _∙_}
+use mathlib.Core.Bool.{true}
+use mathlib.Core.Logic.{⊎-elim}
+use Prim.Native.Nat.{_≤_, _-_}
+use native.Mathlib.Omega.{arith}
 use borrow.Author.Needs.{needs}
+use lib.ListN.{length, getD, set}
+use Rattle.lists.specs.Pass.{Moved, moved-start, moved-more}
+use Rattle.voice.specs.View.{seen}
+use Rattle.voice.proofs.Sizes.{pastEnd}
+use Rattle.design.specs.declared.InstrumentDesign.{InstrumentDesign}
+use Rattle.design.specs.Accepted.{isAccepted, copiesOf}
+use Rattle.model.specs.Voices.{newVoice}
+use Rattle.instrument.specs.View.{view}
+use Rattle.instrument.specs.Calls.{placedAs, answeredAs}
+use Rattle.instrument.specs.declared.Instrument.{Instrument}
+use Rattle.instrument.proofs.States.{tabledAs}
+use Rattle.instrument.proofs.Calls.{Free, free, counts, barred-call}
+use Rattle.instrument.proofs.Formed.{parts-of}
+use Rattle.instrument.proofs.Ons.{off-is, on-off, on-refused, on-done}
+use Rattle.instrument.proofs.Edits.{Changed, change-one, change-none, same-count, edited-same, edited-more, carried}
+use Rattle.instrument.proofs.Sizes.{voices-long, held-long}
 use Rattle.instrument.proofs.Instrument.note_on.Statement.{statement}
 use Rattle.instrument.proofs.Instrument.note_on.Tie as tie
-use Rattle.instrument.proofs.Instrument.note_on.Reads as reads
-use Rattle.instrument.proofs.Instrument.note_on.Lts as lts
-use Rattle.instrument.proofs.Instrument.barred.Reads as barred-reads
-use Rattle.instrument.proofs.Instrument.holding.Reads as holding-reads
-use Rattle.instrument.proofs.Instrument.mono_note_on.Reads as mono-note-on-reads
-use Rattle.instrument.proofs.Instrument.off.Reads as off-reads
-use Rattle.instrument.proofs.Instrument.strike.Reads as strike-reads
-use Rattle.instrument.proofs.refused.Reads as refused-reads
-use Rattle.instrument.proofs.velocity_of.Reads as velocity-of-reads
 
--- src/lib.rt:793:13
-barred-requires : tie.Need-barred-requires
+abbrev Inv-loop : tie.InvT-loop
+Inv-loop note velocity built self₀ barred level on k i₀ self i =
+    (self .«voice_count» ≡ self₀ .«voice_count»)
+    × (self₀ .«voice_count» ≤ 64)
+    × (length (self₀ .voices) ≡ 64)
+    × (self ≡ tabledAs self₀ (self .voices))
+    × Moved seen (on .taken) (self₀ .«voice_count») i (self .voices) (self₀ .voices)
+
+abbrev μ-loop : tie.MeasureT-loop
+μ-loop note velocity built self₀ barred level on k i₀ self i = self₀ .«voice_count» - i
+
+-- what is known of the state given where nothing bars the call
+given : (o : tie.After-on-of Inv-loop μ-loop) → Free (o .before .before .before .before .before .args .t1)
+given o = let b = o .before .before .before in free _ (sym (b .before .barred .ensures) ∙ b .if1 .left)
+
+few : (o : tie.After-on-of Inv-loop μ-loop) → o .before .before .before .before .before .args .t1 .«voice_count» ≤ 64
+few o = counts _ (given o .counted) .voices64
+
+-- the state with its one voice changed
+changes : (j : tie.Joined4 Inv-loop μ-loop) → Changed (j .before .before .before .before .before .before .before .args .t1) (j .before .before .on-of .result) (j .if4 .self)
+unfolding placedAs
+changes j =
+    let o = j .before .before in
+    let s = o .before .before .before .before .before in
+    let x = s .args .t1 in
+    let n = few o in
+    let lv = voices-long x (s .good .0) in
+    ⊎-elim
+    (λ y. change-one x (o .on-of .result) (j .if4 .self) (y .2 .result) (y .0 .taken) (y .2 .ensures) (y .3))
+    (λ y. change-none x (o .on-of .result) (j .if4 .self) (omega arith) (y .0 .left) (y .1))
+    (j .if4 .came)
+
+barred-requires : tie.Need-barred-requires Inv-loop μ-loop
 barred-requires c κs = search needs
 
--- src/lib.rt:795:13
-refused-requires : tie.Need-refused-requires
+refused-requires : tie.Need-refused-requires Inv-loop μ-loop
 refused-requires c κs = search needs
 
--- src/lib.rt:795:13
-returns : tie.Need-returns
+returns : tie.Need-returns Inv-loop μ-loop
 returns c = barred-call _ _ _ _ refl (c .before .before .barred .ensures) (c .before .if1 .taken) (c .refused .ensures)
 
--- src/lib.rt:797:13
-velocity-of-requires : tie.Need-velocity-of-requires
+velocity-of-requires : tie.Need-velocity-of-requires Inv-loop μ-loop
 velocity-of-requires c κs = search needs
 
--- src/lib.rt:799:13
-off-requires : tie.Need-off-requires
+off-requires : tie.Need-off-requires Inv-loop μ-loop
 off-requires c κs = let b = c .before .before in sym (b .before .barred .ensures) ∙ b .if1 .left
 
--- src/lib.rt:799:13
-returns-2 : tie.Need-returns-2
+returns-2 : tie.Need-returns-2 Inv-loop μ-loop
 returns-2 c =
     let v = c .before .before in
     let b = v .before in
     let z = sym (b .before .barred .ensures) ∙ b .if1 .left in
     on-off _ (free _ z) _ _ _ _ (off-is _ _ _ (v .velocity-of .ensures) (c .before .if2 .taken)) (c .off .ensures)
 
--- src/lib.rt:804:43
-enum-told : tie.Need-enum-told
-enum-told c = search needs
+on-of-requires : tie.Need-on-of-requires Inv-loop μ-loop
+on-of-requires c κs = let b = c .before .before in sym (b .before .barred .ensures) ∙ b .if1 .left
 
--- src/lib.rt:804:43
-holding-requires : tie.Need-holding-requires
-holding-requires c κs = search needs
+refused-requires-2 : tie.Need-refused-requires-2 Inv-loop μ-loop
+refused-requires-2 c κs = search needs
 
--- src/lib.rt:804:31
-strike-requires : tie.Need-strike-requires
-strike-requires c κs =
-    let b = c .before .before .before .before .before .before in
-    let z = sym (b .before .barred .ensures) ∙ b .if1 .left in
-    (z, holding-few _ _ (free _ z) (c .holding .ensures))
-
--- src/lib.rt:805:30
-enum-known-mode : tie.Need-enum-known-mode
-enum-known-mode c = search needs
-
--- src/lib.rt:805:42
-mono-note-on-requires : tie.Need-mono-note-on-requires
-mono-note-on-requires c κs = search needs
-
--- src/lib.rt:790:5
-returns-3 : tie.Need-returns-3
+returns-3 : tie.Need-returns-3 Inv-loop μ-loop
 returns-3 c =
-    let t = c .before .before in
-    let e = t .before .before .before in
+    let t = c .before in
+    let o = t .before in
+    let e = o .before in
     let v = e .before in
     let b = v .before in
     let z = sym (b .before .barred .ensures) ∙ b .if1 .left in
-    on-poly _ (free _ z) _ _ _ _ (off-is _ _ _ (v .velocity-of .ensures) (e .if2 .left)) (t .enum-told .given .1) (strike-for _ _ _ _ _ _ _ (c .before .holding .ensures) (v .velocity-of .ensures) (c .strike .ensures))
+    on-refused _ (free _ z) _ _ _ _ (off-is _ _ _ (v .velocity-of .ensures) (e .if2 .left)) _ (v .velocity-of .ensures) _ (o .on-of .ensures) (t .if3 .taken) (c .refused2 .ensures)
 
--- src/lib.rt:790:5
-returns-4 : tie.Need-returns-4
+mul-changed : tie.Need-mul-changed Inv-loop μ-loop
+mul-changed c = let n = few (c .before .before) in omega arith
+
+element-copy-out-changed : tie.Need-element-copy-out-changed Inv-loop μ-loop
+element-copy-out-changed c = let n = few (c .before .before) in omega arith
+
+changed-requires : tie.Need-changed-requires Inv-loop μ-loop
+changed-requires c κs = search needs
+
+mul-t28 : tie.Need-mul-t28 Inv-loop μ-loop
+mul-t28 c = let n = few (c .before .before .before .before) in omega arith
+
+element-set-from-self : tie.Need-element-set-from-self Inv-loop μ-loop
+element-set-from-self c = let n = few (c .before .before .before .before) in omega arith
+
+add-i : tie.Need-add-i Inv-loop μ-loop
+add-i c =
+    let o = c .before .before .before in
+    let n = few o in
+    let w = o .on-of .ensures .within in
+    omega (arith, n, w)
+
+loop-holds : tie.Need-loop-holds Inv-loop μ-loop
+unfolding placedAs
+loop-holds c =
+    let j = c .before in
+    let o = j .before .before in
+    let s = o .before .before .before .before .before in
+    let u = changes j in
+    let n = few o in
+    let k = same-count (s .args .t1) (o .on-of .result) (j .if4 .self) u (let lv = voices-long (s .args .t1) (s .good .0) in omega arith) in
+    (refl, omega (arith, n, k), u .size ∙ voices-long (s .args .t1) (s .good .0), refl, moved-start seen (o .on-of .result .taken) (j .if4 .self .«voice_count») (j .if4 .self .voices))
+
+mul-self : tie.Need-mul-self Inv-loop μ-loop
+mul-self c = let b = c .before in let h = b .loop .inv .1 in let e = b .loop .inv .0 in omega (arith, h, e)
+
+element-copy-out-self : tie.Need-element-copy-out-self Inv-loop μ-loop
+element-copy-out-self c = let b = c .before in let h = b .loop .inv .1 in let e = b .loop .inv .0 in omega (arith, h, e)
+
+sub-t36 : tie.Need-sub-t36 Inv-loop μ-loop
+sub-t36 c = let b = c .before .before in let h = b .loop .inv .4 .behind in omega (arith, h)
+
+mul-t37 : tie.Need-mul-t37 Inv-loop μ-loop
+mul-t37 c = let b = c .before .before in let h = b .loop .inv .1 in let e = b .loop .inv .0 in omega (arith, h, e)
+
+element-set-from-self-2 : tie.Need-element-set-from-self-2 Inv-loop μ-loop
+element-set-from-self-2 c = let b = c .before .before in let h = b .loop .inv .1 in let e = b .loop .inv .0 in omega (arith, h, e)
+
+add-i-2 : tie.Need-add-i-2 Inv-loop μ-loop
+add-i-2 c = let b = c .before .before in let h = b .loop .inv .1 in let e = b .loop .inv .0 in omega (arith, h, e)
+
+loop-less : tie.Need-loop-less Inv-loop μ-loop
+loop-less c = let b = c .before .before in let h = b .loop .inv .1 in let e = b .loop .inv .0 in omega (arith, h, e)
+
+loop-again : tie.Need-loop-again Inv-loop μ-loop
+unfolding placedAs
+loop-again c =
+    let b = c .before .before in
+    let v = b .loop .inv in
+    let e = v .0 in
+    (v .0, v .1, v .2, ap (λ (y : Instrument). tabledAs y (set (b .loop .self .voices) (b .loop .i - 1) (getD (b .loop .self .voices) (b .loop .i) pastEnd))) (v .3), moved-more (v .4) (let h = v .1 in let l = v .2 in omega (arith, h, l)) pastEnd (omega (arith, e)))
+
+new-voice-requires : tie.Need-new-voice-requires Inv-loop μ-loop
+new-voice-requires c κs = search needs
+
+-- one voice more is at least one
+grows : (t : tie.Then5 Inv-loop μ-loop) → 1 ≤ t .before .before .before .before .before .before .on-of .result .count
+grows t =
+    let o = t .before .before .before .before .before .before in
+    let e = rw (t .if5 .taken) at (o .on-of .ensures .size) in
+    omega (arith, e)
+
+sub-v : tie.Need-sub-v Inv-loop μ-loop
+sub-v c = let n = grows (c .before .before .before) in omega (arith, n)
+
+mul-v : tie.Need-mul-v Inv-loop μ-loop
+mul-v c =
+    let o = c .before .before .before .before .before .before .before .before .before in
+    let r = o .on-of .ensures .room in
+    omega (arith, r)
+
+element-set-from-v : tie.Need-element-set-from-v Inv-loop μ-loop
+element-set-from-v c =
+    let o = c .before .before .before .before .before .before .before .before .before in
+    let r = o .on-of .ensures .room in
+    let n = grows (c .before .before .before) in
+    omega (arith, r, n)
+
+answered-requires : tie.Need-answered-requires Inv-loop μ-loop
+answered-requires c κs = search needs
+
+returns-4 : tie.Need-returns-4 Inv-loop μ-loop
+unfolding placedAs view
 returns-4 c =
-    let m = c .before .before in
-    let e = m .before .before .before in
+    let q = c .before .before in
+    let b = q .before .before in
+    let j = b .before .before in
+    let o = j .before .before in
+    let e = o .before in
     let v = e .before in
-    let b = v .before in
-    let z = sym (b .before .barred .ensures) ∙ b .if1 .left in
-    on-mono _ (free _ z) _ _ _ _ (off-is _ _ _ (v .velocity-of .ensures) (e .if2 .left)) (m .mode .given .0 .0) (m .mode .given .1) (mono-for _ _ _ _ _ _ _ (v .velocity-of .ensures) (c .mono-note-on .ensures))
+    let s = v .before .before .before in
+    let x = s .args .t1 in
+    let lv = voices-long x (s .good .0) in
+    let on = o .on-of .result in
+    let a = o .on-of .ensures in
+    let u = changes j in
+    let w = b .loop .inv in
+    let t = b .loop .self in
+    let n = few o in
+    let end : j .if4 .self .«voice_count» ≤ b .loop .i = let z = w .0 in omega (arith, z) in
+    let all : t ≡ tabledAs x (t .voices) = w .3 ∙ ap (λ (y : Instrument). tabledAs y (t .voices)) (u .rest) in
+    let room : x .«voice_count» ≤ length (x .voices) = omega arith in
+    let size : length (t .voices) ≡ 64 = w .4 .pass .size ∙ w .2 in
+    on-done x (given o) (s .args .note) (s .args .velocity) (s .args .built) (c .answered .result) (off-is _ _ _ (v .velocity-of .ensures) (e .if2 .left)) _ (v .velocity-of .ensures) on a (j .before .if3 .left)
+    (⊎-elim
+    (λ y.
+    let ws = set (t .voices) (on .count - 1) (y .2 .result) in
+    let new = y .2 .ensures (view x) (subst (λ (d : InstrumentDesign). isAccepted d ≡ true) (sym (ap (λ (y : Instrument). y .design) all)) (parts-of x lv (held-long x (s .good .0)) (given o .formed) .design)) (sym (ap (λ (y : Instrument). y .design) all)) (sym (ap (λ (y : Instrument). y .bend) all)) (sym (ap (λ (y : Instrument). y .brightness) all)) (sym (ap (λ (y : Instrument). y .«next_handle») all)) in
+    rw (c .answered .ensures ∙ ap (answeredAs (on .reply)) (carried x (j .if4 .self) t (q .if5 .self) (t .voices) ws (j .if4 .self .voices) on (u .rest) (w .3) (y .4)))
+    (a .more (j .before .if3 .left) (y .0 .taken) (y .2 .result) ws (new ∙ ap (λ (d : InstrumentDesign). record { voice = newVoice (view x) (s .args .note) (v .velocity-of .result); count = copiesOf d }) (ap (λ (y : Instrument). y .design) all)) (edited-more x on (j .if4 .self) u room t (b .loop .i) (w .4) end (y .2 .result) size (a .room) (a .size) (y .0 .taken))))
+    (λ y.
+    rw (c .answered .ensures ∙ ap (answeredAs (on .reply)) (carried x (j .if4 .self) t (q .if5 .self) (t .voices) (t .voices) (j .if4 .self .voices) on (u .rest) (w .3) (y .1)))
+    (a .same (j .before .if3 .left) (y .0 .left) (t .voices) (edited-same x on (j .if4 .self) u room t (b .loop .i) (w .4) end (a .size) (y .0 .left))))
+    (q .if5 .came))
 
 pub note-on-spec : {M : Type 1} → statement M
 note-on-spec =
     tie.close
     (tie.spec
+    Inv-loop
+    μ-loop
     barred-requires
     refused-requires
     returns
     velocity-of-requires
     off-requires
     returns-2
-    enum-told
-    holding-requires
-    strike-requires
-    enum-known-mode
-    mono-note-on-requires
+    on-of-requires
+    refused-requires-2
     returns-3
+    mul-changed
+    element-copy-out-changed
+    changed-requires
+    mul-t28
+    element-set-from-self
+    add-i
+    loop-holds
+    mul-self
+    element-copy-out-self
+    sub-t36
+    mul-t37
+    element-set-from-self-2
+    add-i-2
+    loop-less
+    loop-again
+    new-voice-requires
+    sub-v
+    mul-v
+    element-set-from-v
+    answered-requires
     returns-4)

@@ -1,10 +1,7 @@
 use mathlib.Core.Path.{sym, _∙_}
-use Prim.Native.Nat.{_<_}
-use native.Mathlib.Omega.{arith}
 use borrow.Author.Tests.{not-true, not-false}
-use Rattle.instrument.proofs.Formed.{parts-of}
 use Rattle.instrument.proofs.Queries.{voice-refused, voice-none, voice-some}
-use Rattle.instrument.proofs.Sizes.{voices-long, held-long}
+use Rattle.instrument.proofs.Sizes.{voices-long}
 use borrow.Author.Needs.{needs}
 use Rattle.instrument.proofs.Instrument.voice_of.Statement.{statement}
 use Rattle.instrument.proofs.Instrument.voice_of.Tie as tie
@@ -12,16 +9,6 @@ use Rattle.instrument.proofs.Instrument.voice_of.Reads as reads
 use Rattle.instrument.proofs.Instrument.voice_of.Lts as lts
 use Rattle.instrument.proofs.Instrument.well_formed.Reads as well-formed-reads
 use Rattle.voices.proofs.find_first.Reads as find-first-reads
-
--- a place of a well-formed table is a place of the array
-within : (c : tie.Else2) → c .before .find-first .result < 64
-within c =
-    let b = c .before .before .before in
-    let s = b .before .before in
-    let p = parts-of (s .args .self) (voices-long (s .args .self) (s .good .0)) (held-long (s .args .self) (s .good .0)) (sym (b .before .well-formed .ensures) ∙ not-false _ (b .if1 .left)) in
-    let h = p .voices64 in
-    let t = c .if2 .left in
-    omega arith
 
 -- src/lib.rt:631:13
 well-formed-requires : tie.Need-well-formed-requires
@@ -38,25 +25,18 @@ find-first-requires c κs = search needs
 -- src/lib.rt:638:13
 returns-2 : tie.Need-returns-2
 returns-2 c =
-    let b = c .before .before .before in
+    let t = c .before .before in
+    let b = t .before .before in
     let s = b .before .before in
-    voice-none (s .args .self) (sym (b .before .well-formed .ensures) ∙ not-false _ (b .if1 .left)) (voices-long (s .args .self) (s .good .0)) (s .args .note) _ (c .before .find-first .ensures) (c .if2 .taken)
-
--- src/lib.rt:640:17
-mul-v : tie.Need-mul-v
-mul-v c = let h = within c in omega arith
-
--- src/lib.rt:640:17
-array-copy-out-v : tie.Need-array-copy-out-v
-array-copy-out-v c = within c
+    voice-none (s .args .self) (sym (b .before .well-formed .ensures) ∙ not-false _ (b .if1 .left)) (voices-long (s .args .self) (s .good .0)) (s .args .note) _ (t .find-first .ensures .place) (c .if2 .taken)
 
 -- src/lib.rt:628:5
 returns-3 : tie.Need-returns-3
 returns-3 c =
-    let e = c .before in
-    let b = e .before .before .before in
+    let t = c .before .before in
+    let b = t .before .before in
     let s = b .before .before in
-    voice-some (s .args .self) (sym (b .before .well-formed .ensures) ∙ not-false _ (b .if1 .left)) (voices-long (s .args .self) (s .good .0)) (s .args .note) _ (e .before .find-first .ensures) _ (e .if2 .left)
+    voice-some (s .args .self) (sym (b .before .well-formed .ensures) ∙ not-false _ (b .if1 .left)) (voices-long (s .args .self) (s .good .0)) (s .args .note) _ (t .find-first .ensures .place) _ (t .find-first .ensures .handle) (c .if2 .left)
 
 pub voice-of-spec : {M : Type 1} → statement M
 voice-of-spec =
@@ -66,6 +46,4 @@ voice-of-spec =
     returns
     find-first-requires
     returns-2
-    mul-v
-    array-copy-out-v
     returns-3)

@@ -1,8 +1,8 @@
 use native.Mathlib.Numerals.{add-one}
 use borrow.Author.Tests.{eq-eqb, ne-eqb}
 use borrow.Author.Needs.{needs}
-use Rattle.voices.proofs.quietest_next.Statement.{statement}
-use Rattle.voices.proofs.quietest_next.Tie as tie
+use Rattle.voices.proofs.steal.quietest_next.Statement.{statement}
+use Rattle.voices.proofs.steal.quietest_next.Tie as tie
 
 returns : tie.Need-returns
 returns c = search needs
