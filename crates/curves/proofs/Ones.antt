@@ -1,15 +1,16 @@
 -- Voices of one copy: what their only copy makes of them.
 use mathlib.Core.Path.{_≡_, refl, ap, sym, _∙_}
-use mathlib.Core.Bool.{Bool, true, false, _&&_}
-use mathlib.Core.List.{List, [], _∷_, map, flatMap, append-nil}
-use Prim.Native.Nat.{ℕ, zero, suc, _+_, _≤_}
+use mathlib.Core.Bool.{Bool, true, _&&_, and-true}
+use mathlib.Core.List.{List, [], _∷_, _++_, map, flatMap, zipWith, append-assoc, append-nil}
+use Prim.Native.Nat.{ℕ, zero, suc, _+_, _*_, _≤_}
 use native.Mathlib.Omega.{arith}
-use borrow.Author.Tests.{eq-eqb, eqb-true}
+use borrow.Author.Tests.{eqb-true}
 use lib.Dec.{eqb}
 use lib.Ieee.{Float}
 use lib.ListN.{length, take, set, getD}
 use lib.Seq.{take-all}
-use Rattle.lists.specs.Choose.{both, clash}
+use Rattle.lists.specs.All.{all}
+use Rattle.lists.specs.Choose.{both}
 use Rattle.lists.specs.Parts.{no-length}
 use Rattle.stream.specs.declared.UnisonCopy.{UnisonCopy}
 use Rattle.stream.specs.Pitch.{glided, curve}
@@ -19,8 +20,7 @@ use Rattle.voice.specs.View.{shown, seen}
 use Rattle.voice.specs.Changes.{onSeen}
 use Rattle.voice.proofs.Sizes.{noCopy}
 use Rattle.curves.specs.declared.Four.{Four}
-use Rattle.curves.specs.declared.FourVoices.{FourVoices}
-use Rattle.curves.specs.Glides.{voiceCurve, FourGlided, OneEach, FourPut, FourFit, GlidedVoices}
+use Rattle.curves.specs.Glides.{voiceCurve, FourGlided, single, withOnly, VoicesFit, GlidedVoices}
 
 -- the only one of a front
 only : (n : ℕ) (cs : List UnisonCopy) → length (take n cs) ≡ 1 → take n cs ≡ getD cs 0 noCopy ∷ []
@@ -49,40 +49,37 @@ module _ (n : ℕ) (v : Voice) (one : length (shown v .copies) ≡ 1) where
   unfolding shown flatMap
   only-curve = rw (only (v .«copy_count») (v .copies) one) (sym (append-nil (curve n (first v))))
 
-module _ (n : ℕ) (a b c d : Voice) (old : List Float) where
-  pub four-glides : (new : List Float) (r : FourVoices) (four : Four) → FourFit n a b c d old → FourGlided n 0 (first a) (first b) (first c) (first d) old new four
-      → FourPut a b c d four r → GlidedVoices n a b c d r old new
-  four-glides new r four f g p =
-      let one = f .0 in
-      let all : length new ≤ 0 + n + n + n + n = let s = g .size in let h = f .1 in omega arith in
+-- the same of a list of such voices
+module _ (n : ℕ) where
+  singles-glide : (vs : List Voice) → all single vs ≡ true → zipWith withOnly vs (map (λ (v : Voice). glided n (first v)) vs) ≡ map (onSeen (withCopies (glided n))) (map seen vs)
+  unfolding zipWith
+  singles-glide [] e = refl
+  singles-glide (v ∷ vs) e = let h = both (single v) (all single vs) e in rw (only-glides n v (eqb-true _ _ (h .0)) _ refl, singles-glide vs (h .1))
+
+  singles-curve : (vs : List Voice) → all single vs ≡ true → flatMap (λ (v : Voice). curve n (first v)) vs ≡ flatMap (voiceCurve n) vs
+  unfolding flatMap
+  singles-curve [] e = refl
+  singles-curve (v ∷ vs) e = let h = both (single v) (all single vs) e in rw (only-curve n v (eqb-true _ _ (h .0)), singles-curve vs (h .1))
+
+module _ (n : ℕ) (vs : List Voice) (old : List Float) where
+  -- a, b, c, d: the four voices, as the code reads them
+  pub four-glides : (a b c d : Voice) → a ∷ b ∷ c ∷ d ∷ [] ≡ vs → (new : List Float) (ws : List Voice) (four : Four) → all single vs ≡ true → n * 4 ≡ length old
+      → FourGlided n 0 (first a) (first b) (first c) (first d) old new four → map seen ws ≡ zipWith withOnly vs (four .a ∷ four .b ∷ four .c ∷ four .d ∷ []) → GlidedVoices n vs ws old new
+  unfolding flatMap
+  four-glides a b c d read new ws four one fit g p =
+      let whole : length new ≤ 0 + n + n + n + n = let s = g .size in omega arith in
+      let copies : (four .a ∷ four .b ∷ four .c ∷ four .d ∷ []) ≡ map (λ (v : Voice). glided n (first v)) vs = rw (g .a-next, g .b-next, g .c-next, g .d-next, ← read) in
+      let joined : take 0 old ++ curve n (first a) ++ curve n (first b) ++ curve n (first c) ++ curve n (first d) ≡ flatMap (λ (v : Voice). curve n (first v)) vs = rw (← read) (simp (append-assoc, append-nil)) in
       record {
-        a-next = λ _. p .a-next ∙ only-glides n a (one .a-one) _ (g .a-next);
-        b-next = λ _. p .b-next ∙ only-glides n b (one .b-one) _ (g .b-next);
-        c-next = λ _. p .c-next ∙ only-glides n c (one .c-one) _ (g .c-next);
-        d-next = λ _. p .d-next ∙ only-glides n d (one .d-one) _ (g .d-next);
-        numbers = λ _. sym (take-all (0 + n + n + n + n) new all) ∙ g .numbers ∙ rw (only-curve n a (one .a-one), only-curve n b (one .b-one), only-curve n c (one .c-one), only-curve n d (one .d-one));
-        other = λ no. absurd (no f);
+        voices = λ _. p ∙ ap (zipWith withOnly vs) copies ∙ singles-glide n vs one;
+        numbers = λ _. sym (take-all (0 + n + n + n + n) new whole) ∙ g .numbers ∙ joined ∙ singles-curve n vs one;
+        other = λ no. absurd (no (one, rw (← read) fit));
       }
 
-  pub four-kept : (FourFit n a b c d old → ⊥) → GlidedVoices n a b c d (record { a = a; b = b; c = c; d = d }) old old
-  four-kept unfit = record {
-    a-next = λ h. absurd (unfit h);
-    b-next = λ h. absurd (unfit h);
-    c-next = λ h. absurd (unfit h);
-    d-next = λ h. absurd (unfit h);
-    numbers = λ h. absurd (unfit h);
-    other = λ _. (refl, refl);
-  }
+  pub four-kept : (VoicesFit n vs old → ⊥) → GlidedVoices n vs vs old old
+  four-kept unfit = record { voices = λ h. absurd (unfit h); numbers = λ h. absurd (unfit h); other = λ _. (refl, refl) }
 
 -- the code's test of the counts
-module _ (a b c d : Voice) (x : Bool) (ka kb kc kd : ℕ) (e : x ≡ (eqb ka 1 && (eqb kb 1 && (eqb kc 1 && eqb kd 1)))) (ea : ka ≡ length (shown a .copies)) (eb : kb ≡ length (shown b .copies))
-    (ec : kc ≡ length (shown c .copies)) (ed : kd ≡ length (shown d .copies)) where
-  pub ones : x ≡ true → OneEach a b c d
-  ones t =
-      let p = both (eqb ka 1) _ (sym e ∙ t) in
-      let q = both (eqb kb 1) _ (p .1) in
-      let r = both (eqb kc 1) (eqb kd 1) (q .1) in
-      record { a-one = sym ea ∙ eqb-true _ _ (p .0); b-one = sym eb ∙ eqb-true _ _ (q .0); c-one = sym ec ∙ eqb-true _ _ (r .0); d-one = sym ed ∙ eqb-true _ _ (r .1) }
-
-  pub not-ones : x ≡ false → OneEach a b c d → ⊥
-  not-ones f o = clash x (e ∙ rw (eq-eqb _ _ (ea ∙ o .a-one), eq-eqb _ _ (eb ∙ o .b-one), eq-eqb _ _ (ec ∙ o .c-one), eq-eqb _ _ (ed ∙ o .d-one))) f
+pub counts : (vs : List Voice) (a b c d : Voice) → a ∷ b ∷ c ∷ d ∷ [] ≡ vs → (x : Bool) (ka kb kc kd : ℕ) → x ≡ (eqb ka 1 && (eqb kb 1 && (eqb kc 1 && eqb kd 1)))
+    → ka ≡ length (shown a .copies) → kb ≡ length (shown b .copies) → kc ≡ length (shown c .copies) → kd ≡ length (shown d .copies) → x ≡ all single vs
+counts vs a b c d read x ka kb kc kd e ea eb ec ed = rw (e, ea, eb, ec, ed, ← read, and-true)

@@ -3,15 +3,16 @@ use mathlib.Core.Path.{_≡_}
 use mathlib.Core.Bool.{Bool, true}
 use mathlib.Core.List.{List, _++_, map, flatMap}
 use Prim.Native.Nat.{ℕ, _+_, _*_}
+use lib.Dec.{eqb}
 use lib.Ieee.{Float}
 use lib.ListN.{length, take}
+use Rattle.lists.specs.All.{all}
 use Rattle.stream.specs.declared.UnisonCopy.{UnisonCopy}
 use Rattle.stream.specs.Pitch.{pitched, glided, curve}
 use Rattle.curves.specs.declared.Four.{Four}
-use Rattle.curves.specs.declared.FourVoices.{FourVoices}
 use Rattle.model.specs.Voices.{withCopies}
 use Rattle.voice.specs.declared.Voice.{Voice}
-use Rattle.voice.specs.View.{shown, seen}
+use Rattle.voice.specs.View.{shown, Seen, seen}
 use Rattle.voice.specs.Changes.{onSeen}
 
 -- four copies at other pitches
@@ -61,29 +62,20 @@ pub record WrittenVoice (frames : ℕ) (v : Voice) (old new : List Float) : Type
   pub numbers : Fits frames v old → new ≡ voiceCurve frames v
   pub other : (Fits frames v old → ⊥) → new ≡ old
 
--- each of four voices has one copy
-pub record OneEach (a b c d : Voice) : Type 0 where
-  pub a-one : length (shown a .copies) ≡ 1
-  pub b-one : length (shown b .copies) ≡ 1
-  pub c-one : length (shown c .copies) ≡ 1
-  pub d-one : length (shown d .copies) ≡ 1
+-- the voice has one copy
+abbrev pub single : Voice → Bool
+single v = eqb (length (shown v .copies)) 1
 
--- four voices with these copies in place of their own
-pub record FourPut (a b c d : Voice) (four : Four) (r : FourVoices) : Type 0 where
-  pub a-next : seen (r .a) ≡ onSeen (withCopies (λ _. four .a)) (seen a)
-  pub b-next : seen (r .b) ≡ onSeen (withCopies (λ _. four .b)) (seen b)
-  pub c-next : seen (r .c) ≡ onSeen (withCopies (λ _. four .c)) (seen c)
-  pub d-next : seen (r .d) ≡ onSeen (withCopies (λ _. four .d)) (seen d)
+-- a voice of one copy, with another in its place
+abbrev pub withOnly : Voice → UnisonCopy → Seen
+withOnly v c = onSeen (withCopies (λ _. c)) (seen v)
 
 -- one copy each, and a curve of n numbers for each
-abbrev pub FourFit : ℕ → Voice → Voice → Voice → Voice → List Float → Type 0
-FourFit frames a b c d old = OneEach a b c d × (frames * 4 ≡ length old)
+abbrev pub VoicesFit : ℕ → List Voice → List Float → Type 0
+VoicesFit frames vs old = (all single vs ≡ true) × (frames * length vs ≡ length old)
 
--- four voices and their part of the curve, n samples later, or all as it was
-pub record GlidedVoices (frames : ℕ) (a b c d : Voice) (r : FourVoices) (old new : List Float) : Type 0 where
-  pub a-next : FourFit frames a b c d old → seen (r .a) ≡ onSeen (withCopies (glided frames)) (seen a)
-  pub b-next : FourFit frames a b c d old → seen (r .b) ≡ onSeen (withCopies (glided frames)) (seen b)
-  pub c-next : FourFit frames a b c d old → seen (r .c) ≡ onSeen (withCopies (glided frames)) (seen c)
-  pub d-next : FourFit frames a b c d old → seen (r .d) ≡ onSeen (withCopies (glided frames)) (seen d)
-  pub numbers : FourFit frames a b c d old → new ≡ voiceCurve frames a ++ voiceCurve frames b ++ voiceCurve frames c ++ voiceCurve frames d
-  pub other : (FourFit frames a b c d old → ⊥) → (r ≡ record { a = a; b = b; c = c; d = d }) × (new ≡ old)
+-- such voices and their part of the curve, n samples later; else all is left as it is
+pub record GlidedVoices (frames : ℕ) (vs ws : List Voice) (old new : List Float) : Type 0 where
+  pub voices : VoicesFit frames vs old → map seen ws ≡ map (onSeen (withCopies (glided frames))) (map seen vs)
+  pub numbers : VoicesFit frames vs old → new ≡ flatMap (voiceCurve frames) vs
+  pub other : (VoicesFit frames vs old → ⊥) → (ws ≡ vs) × (new ≡ old)

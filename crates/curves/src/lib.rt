@@ -2,15 +2,14 @@
 
 ghost use mathlib.Core.Path.{_≡_};
 ghost use mathlib.Core.Bool.{true, false, _&&_};
-ghost use mathlib.Core.List.{map, flatMap};
+ghost use mathlib.Core.List.{[], _∷_, map, flatMap, zipWith};
 ghost use Prim.Native.Nat.{_+_, _*_, _≤_, min};
 ghost use lib.Dec.{eqb};
 ghost use lib.ListN.{length, take, replicate};
+ghost use Rattle.lists.specs.All.{all};
 ghost use Rattle.stream.specs.Pitch.{pitched, glideStep, glided as glidedOf, curve as curveOf, GlidedOver};
-ghost use Rattle.model.specs.Voices.{withCopies};
 ghost use Rattle.voice.specs.View.{shown, seen};
-ghost use Rattle.voice.specs.Changes.{onSeen};
-ghost use Rattle.curves.specs.Glides.{pitchedFour, FourGlided, StandAs, StandsAs, GlidedVoice, WrittenVoice, OneEach, FourPut, GlidedVoices};
+ghost use Rattle.curves.specs.Glides.{pitchedFour, FourGlided, StandAs, StandsAs, GlidedVoice, WrittenVoice, single, withOnly, GlidedVoices};
 use stream::UnisonCopy;
 use voice::Voice;
 
@@ -221,14 +220,6 @@ pub fn write_voice(v: Voice, frames: usize, curve: &mut [f32])
     }
 }
 
-// Four voices that glide side by side.
-pub struct FourVoices {
-    pub a: Voice,
-    pub b: Voice,
-    pub c: Voice,
-    pub d: Voice,
-}
-
 fn each_is_one(a: usize, b: usize, c: usize, d: usize) -> bool
     ensures { λ r. ⌜ r ≡ (eqb a 1 && (eqb b 1 && (eqb c 1 && eqb d 1))) ⌝ }
 {
@@ -247,55 +238,57 @@ fn each_is_one(a: usize, b: usize, c: usize, d: usize) -> bool
 // A voice of one copy, with another in its place.
 fn with_copy(mut v: Voice, copy: UnisonCopy) -> Voice
     requires { ⌜ length (shown v .copies) ≡ 1 ⌝ }
-    ensures { λ r. ⌜ seen r ≡ onSeen (withCopies (λ _. copy)) (seen v) ⌝ }
+    ensures { λ r. ⌜ seen r ≡ withOnly v copy ⌝ }
 {
     v.copies[0] = copy;
     v
 }
 
-fn with_copies(a: Voice, b: Voice, c: Voice, d: Voice, four: Four) -> FourVoices
-    requires { ⌜ OneEach a b c d ⌝ }
-    ensures { λ r. ⌜ FourPut a b c d four r ⌝ }
+// Four voices of one copy each, with others in their places.
+fn with_copies(vs: [Voice; 4], four: Four) -> [Voice; 4]
+    requires { ⌜ all single vs ≡ true ⌝ }
+    ensures { λ r. ⌜ map seen r ≡ zipWith withOnly vs (four .a ∷ four .b ∷ four .c ∷ four .d ∷ []) ⌝ }
 {
     let ua = four.a;
     let ub = four.b;
     let uc = four.c;
     let ud = four.d;
-    FourVoices {
-        a: with_copy(a, ua),
-        b: with_copy(b, ub),
-        c: with_copy(c, uc),
-        d: with_copy(d, ud),
-    }
+    [
+        with_copy(vs[0], ua),
+        with_copy(vs[1], ub),
+        with_copy(vs[2], uc),
+        with_copy(vs[3], ud),
+    ]
 }
 
 // Four voices of one copy each `frames` samples later; their copies fill the curve, one after the other. Voices of other counts,
 // and a curve of another size, are left as they are.
-pub fn glide_voices(
-    a: Voice,
-    b: Voice,
-    c: Voice,
-    d: Voice,
-    frames: usize,
-    curve: &mut [f32],
-) -> FourVoices
-    ensures { λ r. ⌜ GlidedVoices frames a b c d r (now (curve .entry)) (now (curve .exit)) ⌝ }
+pub fn glide_voices(vs: [Voice; 4], frames: usize, curve: &mut [f32]) -> [Voice; 4]
+    ensures { λ r. ⌜ GlidedVoices frames vs r (now (curve .entry)) (now (curve .exit)) ⌝ }
 {
+    let a = vs[0];
+    let b = vs[1];
+    let c = vs[2];
+    let d = vs[3];
     if !each_is_one(
         a.copies_shown(),
         b.copies_shown(),
         c.copies_shown(),
         d.copies_shown(),
     ) {
-        return FourVoices { a, b, c, d };
+        return vs;
     }
     if !voices::fills(frames, 4, curve.len()) {
-        return FourVoices { a, b, c, d };
+        return vs;
     }
-    let ua = a.copies[0];
-    let ub = b.copies[0];
-    let uc = c.copies[0];
-    let ud = d.copies[0];
-    let four = glide_four(ua, ub, uc, ud, frames, 0, curve);
-    with_copies(a, b, c, d, four)
+    let four = glide_four(
+        a.copies[0],
+        b.copies[0],
+        c.copies[0],
+        d.copies[0],
+        frames,
+        0,
+        curve,
+    );
+    with_copies(vs, four)
 }

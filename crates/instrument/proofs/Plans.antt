@@ -2,14 +2,14 @@
 use mathlib.Core.Path.{_≡_, refl, ap, sym, _∙_, fun-ext}
 use mathlib.Core.Bool.{Bool, true, false, cond}
 use mathlib.Core.List.{List, [], _∷_, map}
-use Prim.Native.Nat.{ℕ, zero, suc, _*_, _≤_, _<_, _^_}
+use Prim.Native.Nat.{ℕ, _*_, _≤_, _^_}
 use native.Mathlib.Omega.{arith}
 use native.Mathlib.Nat.{mul-le-mul}
 use borrow.Author.Tests.{leb-true, le-leb, eq-eqb, ne-eqb, eqb-true, not-false}
 use lib.Dec.{T, leb, le→leb}
 use lib.Ieee.{Float, binary32, mul, lt, inFloat}
 use lib.IntN.{pos}
-use lib.ListN.{length, getD, length-map, length-take}
+use lib.ListN.{length, length-map, length-take}
 use Rattle.lists.specs.Choose.{both, chosen, cond-true, cond-false}
 use Rattle.lists.specs.All.{all}
 use Rattle.lists.specs.Count.{count}
@@ -29,9 +29,7 @@ use Rattle.model.specs.Plan.{vibratoFactor, filterFactor, tremoloGain, phaseAft
 use Rattle.model.specs.Step.{noBlock, blockOpen, blockMissing, handlesSpent, refusal, lentTo, accepted, step}
 use Rattle.model.proofs.Laws.{modulated-copies}
 use Rattle.model.proofs.Refusals.{Passes, passes}
-use Rattle.voice.specs.View.{Seen, shown}
-use Rattle.voice.proofs.Sizes.{pastEnd}
-use Rattle.voices.proofs.Table.{table-size, table-at}
+use Rattle.voice.specs.View.{Seen}
 use Rattle.voices.specs.View.{seenFirst, voicesOf}
 use Rattle.voice.specs.Changes.{copyChanged, voiceChanged, onSeen}
 use Rattle.voice.specs.declared.Voice.{Voice}
@@ -63,17 +61,22 @@ pub frames-float : (n : ℕ) → n ≤ 1024 → T (inFloat binary32 (pos n))
 unfolding inFloat
 frames-float n h = le→leb n (2 ^ 24) (omega arith)
 
--- every voice of a well formed table has the design's copies
-copies-even : (next k : ℕ) (l : List Seen) → all (voiceFits next k) l ≡ true → copiesIn (voicesOf l) ≡ length l * k
-unfolding voiceFits
-copies-even next k [] e = omega arith
-copies-even next k (x ∷ l) e =
-    let a = both _ (all (voiceFits next k) l) e in
-    let b = both (leb (x .count) 8) _ (a .0) in
-    let c = both (handleFits next (x .voice)) _ (b .1) in
-    let d = eqb-true (length (x .voice .copies)) k (both (copiesFit k (x .voice)) (stageFits (x .voice)) (c .1) .0) in
-    let h = copies-even next k l (a .1) in
+-- voices that all have k copies
+pub copies-even : (p : Seen → Bool) (k : ℕ) → ((x : Seen) → p x ≡ true → length (x .voice .copies) ≡ k) → (l : List Seen) → all p l ≡ true → copiesIn (voicesOf l) ≡ length l * k
+copies-even p k f [] e = omega arith
+copies-even p k f (x ∷ l) e =
+    let a = both (p x) (all p l) e in
+    let d = f x (a .0) in
+    let h = copies-even p k f l (a .1) in
     omega arith
+
+-- as those of a well formed table have the design's
+fits-copies : (next k : ℕ) (x : Seen) → voiceFits next k x ≡ true → length (x .voice .copies) ≡ k
+unfolding voiceFits
+fits-copies next k x e =
+    let b = both (leb (x .count) 8) _ e in
+    let c = both (handleFits next (x .voice)) _ (b .1) in
+    eqb-true (length (x .voice .copies)) k (both (copiesFit k (x .voice)) (stageFits (x .voice)) (c .1) .0)
 
 well-even : (m : M.Model) → wellFormed m ≡ true → all (copiesFit (copiesOf (m .design))) (m .voices) ≡ true
 unfolding wellFormed
@@ -97,11 +100,6 @@ unfolding modulatedBy applied moved
 modulated-even m n vibrato filter sine k e =
     chosen (λ (t : M.Model). all (copiesFit k) (t .voices) ≡ true) (modulated (m .design .modulation)) _ _ (λ _. even-same _ k (m .voices) ∙ e) (λ _. e)
 
-all-at : (p : M.Voice → Bool) (vs : List M.Voice) (j : ℕ) (d : M.Voice) → j < length vs → all p vs ≡ true → p (getD vs j d) ≡ true
-all-at p [] j d h e = let z : ⊥ = omega arith in absurd z
-all-at p (v ∷ vs) zero d h e = both (p v) (all p vs) e .0
-all-at p (v ∷ vs) (suc j) d h e = all-at p vs j d (omega arith) (both (p v) (all p vs) e .1)
-
 pub record Rows (s : Instrument) (rows : ℕ) : Type 0 where
   pub all : copiesIn (view s .voices) ≡ rows
   pub most : rows ≤ 512
@@ -115,7 +113,7 @@ module _ (s : Instrument) (lv : length (s .voices) ≡ 64) (lh : length (s .held
       let k8 : k ≤ 8 = rw e (copies-most (s .design) (p .design)) in
       let l : length (tableOf s) ≡ s .«voice_count» = simp (length-map, length-take) (omega arith) in
       record {
-        all = copies-even _ _ (tableOf s) (p .fits) ∙ rw (l, e);
+        all = copies-even _ _ (fits-copies _ _) (tableOf s) (p .fits) ∙ rw (l, e);
         most = mul-le-mul n64 k8;
       }
 
@@ -237,18 +235,11 @@ module _ (s : Instrument) (n : ℕ) (vibrato filter sine : Float) (old : List Fl
       pub plan-room : t .«voice_count» ≤ 64
       plan-room = counts t in-room .voices64
 
-      even : all (copiesFit (copiesOf (s .design))) (voicesOf (tableOf t)) ≡ true
-      unfolding view
-      even =
-          ap (λ (w : M.Model). all (copiesFit (copiesOf (s .design))) (w .voices)) (m .next) ∙ modulated-even (view s) n vibrato filter sine _ (well-even (view s) (kept .well))
-
       -- every voice has the design's copies
-      pub plan-even : length (t .voices) ≡ 64 → (j : ℕ) → j < t .«voice_count» → length (shown (getD (t .voices) j pastEnd) .copies) ≡ copiesOf (s .design)
-      plan-even len j h =
-          let r = plan-room in
-          let z = table-size (t .«voice_count») (t .voices) len in
-          let k = eqb-true _ _ (all-at (copiesFit (copiesOf (s .design))) (voicesOf (tableOf t)) j M.noVoice (omega arith) even) in
-          ap (λ (v : M.Voice). length (v .copies)) (sym (table-at (t .«voice_count») (t .voices) j h)) ∙ k
+      pub plan-even : all (copiesFit (copiesOf (s .design))) (voicesOf (tableOf t)) ≡ true
+      unfolding view
+      plan-even =
+          ap (λ (w : M.Model). all (copiesFit (copiesOf (s .design))) (w .voices)) (m .next) ∙ modulated-even (view s) n vibrato filter sine _ (well-even (view s) (kept .well))
 
       pub plan-size : n * copiesIn (voicesOf (tableOf t)) ≡ length old
       unfolding view

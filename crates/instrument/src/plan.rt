@@ -7,6 +7,7 @@ ghost use Prim.Native.Nat.{_*_, _≤_};
 ghost use lib.Dec.{leb, eqb};
 ghost use lib.Ieee.{Float};
 ghost use lib.ListN.{length};
+ghost use Rattle.design.specs.Accepted.{modulated as isModulated};
 ghost use Rattle.envelope.specs.Start.{rateFits};
 ghost use Rattle.model.specs.Types.{Call};
 ghost use Rattle.model.specs.Plan.{vibratoFactor, filterFactor, tremoloGain, applied};
@@ -19,6 +20,7 @@ use crate::Reply;
 use crate::answered;
 use crate::frames_fit;
 use crate::refused;
+use design::InstrumentDesign;
 use design::Modulation;
 use voice::CopyChange;
 use voice::VoiceChange;
@@ -70,11 +72,19 @@ fn wobble(m: Modulation, bend: f32, cutoff: f32) -> VoiceChange
     VoiceChange::Copies(CopyChange::Bend(bend))
 }
 
-// Whether a voice that moves goes together with the next three: all have as many copies, here one.
-fn side_by_side(left: usize, copies: usize) -> bool
-    ensures { λ r. ⌜ r ≡ (leb 4 left && eqb copies 1) ⌝ }
+// Whether any LFO of the design counts.
+fn modulated(design: InstrumentDesign) -> bool
+    ensures { λ r. ⌜ r ≡ isModulated (design .modulation) ⌝ }
 {
-    if left < 4 {
+    let m = design.modulation;
+    m.is_active()
+}
+
+// Whether a voice that moves, with `left` after it, goes together with the next three: all have as many copies, here one.
+fn side_by_side(left: usize, copies: usize) -> bool
+    ensures { λ r. ⌜ r ≡ (leb 3 left && eqb copies 1) ⌝ }
+{
+    if left < 3 {
         return false;
     }
     copies == 1
@@ -123,25 +133,17 @@ impl Instrument {
     }
 
     // Plans a block: modulation first, where it is active, then the pitch of every copy, frame by frame. The table is changed
-    // where it stands.
-    pub fn plan(
-        mut self,
-        frames: usize,
-        vibrato: f32,
-        filter: f32,
-        tremolo_sine: f32,
-        curve: &mut [f32],
-    ) -> Outcome
-        ensures { λ r. ⌜ PlannedAs self frames vibrato filter «tremolo_sine» (now (curve .entry)) (now (curve .exit)) r ⌝ }
+    // where it stands; `i` goes on as soon as a voice is read. `vib` and `flt` are the host's factors, `sin` is the sine of
+    // the tremolo.
+    pub fn plan(mut self, frames: usize, vib: f32, flt: f32, sin: f32, curve: &mut [f32]) -> Outcome
+        ensures { λ r. ⌜ PlannedAs self frames vib flt sin (now (curve .entry)) (now (curve .exit)) r ⌝ }
     {
         let number = self.plan_refusal(frames, curve.len());
         if number != 0 {
             return refused(self, number);
         }
-        let design = self.design;
-        let m = design.modulation;
-        if m.is_active() {
-            self = self.apply_modulation(frames, vibrato, filter, tremolo_sine);
+        if modulated(self.design) {
+            self = self.apply_modulation(frames, vib, flt, sin);
         }
         let n = self.voice_count;
         let mut at: usize = 0;
@@ -150,31 +152,23 @@ impl Instrument {
             let v = self.voices[i];
             let copies = v.copies_shown();
             let end = at + frames * copies;
+            i += 1;
             if curves::stands(v) {
                 curves::write_voice(v, frames, &mut curve[at..end]);
                 at = end;
-                i += 1;
             } else if side_by_side(n - i, copies) {
-                let b = self.voices[i + 1];
-                let c = self.voices[i + 2];
-                let d = self.voices[i + 3];
-                let last = at + 4 * frames;
-                let four = curves::glide_voices(v, b, c, d, frames, &mut curve[at..last]);
-                let wa = four.a;
-                let wb = four.b;
-                let wc = four.c;
-                let wd = four.d;
-                self.voices[i] = wa;
-                self.voices[i + 1] = wb;
-                self.voices[i + 2] = wc;
-                self.voices[i + 3] = wd;
+                let last = at + frames * 4;
+                let four = [v, self.voices[i], self.voices[i + 1], self.voices[i + 2]];
+                let glided = curves::glide_voices(four, frames, &mut curve[at..last]);
+                self.voices[i - 1] = glided[0];
+                self.voices[i] = glided[1];
+                self.voices[i + 1] = glided[2];
+                self.voices[i + 2] = glided[3];
                 at = last;
-                i += 4;
+                i += 3;
             } else {
-                let w = curves::glide_voice(v, frames, &mut curve[at..end]);
-                self.voices[i] = w;
+                self.voices[i - 1] = curves::glide_voice(v, frames, &mut curve[at..end]);
                 at = end;
-                i += 1;
             }
         }
         self.frames = frames;

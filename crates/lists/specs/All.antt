@@ -2,9 +2,9 @@
 use mathlib.Core.Path.{_≡_, refl}
 use mathlib.Core.Bool.{Bool, true, false, not, _&&_}
 use mathlib.Core.List.{List, [], _∷_, map}
-use Prim.Native.Nat.{ℕ, _+_, _<_}
+use Prim.Native.Nat.{ℕ, zero, suc, _+_, _<_}
 use native.Mathlib.Omega.{arith}
-use lib.ListN.{length, drop, getD}
+use lib.ListN.{length, take, drop, getD}
 use Rattle.lists.specs.Prefix.{drop-more}
 use Rattle.lists.specs.Choose.{both}
 use Rattle.lists.specs.Count.{oneIf, count}
@@ -39,6 +39,21 @@ module _ {A : Type 0} (p : A → Bool) where
 
   pub all-fails : (xs : List A) (i : ℕ) (d : A) → i < length xs → p (getD xs i d) ≡ false → all p (drop i xs) ≡ false
   all-fails xs i d h e = rw (drop-more xs i d, e)
+
+  pub all-take : (n : ℕ) (xs : List A) → all p xs ≡ true → all p (take n xs) ≡ true
+  all-take zero xs e = refl
+  all-take (suc n) [] e = refl
+  all-take (suc n) (x ∷ xs) e = let h = both (p x) (all p xs) e in rw (h .0) (all-take n xs (h .1))
+
+  pub all-drop : (n : ℕ) (xs : List A) → all p xs ≡ true → all p (drop n xs) ≡ true
+  all-drop zero xs e = e
+  all-drop (suc n) [] e = refl
+  all-drop (suc n) (x ∷ xs) e = all-drop n xs (both (p x) (all p xs) e .1)
+
+  pub all-at : (xs : List A) (j : ℕ) (d : A) → j < length xs → all p xs ≡ true → p (getD xs j d) ≡ true
+  all-at [] j d h e = let z : ⊥ = omega arith in absurd z
+  all-at (x ∷ xs) zero d h e = both (p x) (all p xs) e .0
+  all-at (x ∷ xs) (suc j) d h e = all-at xs j d (omega arith) (both (p x) (all p xs) e .1)
 
 module _ {A : Type 0} (p q : A → Bool) where
   -- two tests at once

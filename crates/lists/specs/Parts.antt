@@ -1,12 +1,12 @@
 -- A list written part by part: what a part that was lent and came back makes of the whole, parts of a part, one list parted in two ways,
 -- and lists that are joined of one list for each element.
 use mathlib.Core.Path.{_≡_, refl, ap, sym, _∙_}
-use mathlib.Core.List.{List, [], _∷_, _++_, flatMap, append-assoc, append-nil}
+use mathlib.Core.List.{List, [], _∷_, _++_, map, flatMap, append-assoc, append-nil}
 use Prim.Native.Nat.{ℕ, zero, suc, _+_, _-_, _*_, _≤_, _<_}
 use native.Mathlib.Nat.{mul-suc}
 use native.Mathlib.Omega.{arith}
 use lib.ListN.{length, take, drop, getD, set, replicate, length-append, length-take, length-drop, length-set}
-use lib.Seq.{take-at, take-take, drop-append-seam, drop-drop, drop-cons, drop-set-lt, getD-set-same}
+use lib.Seq.{take-all, take-at, take-take, drop-append-seam, drop-drop, drop-cons, drop-set-lt, getD-set-same}
 use Rattle.lists.specs.Prefix.{take-more}
 
 module _ {A : Type 0} where
@@ -98,6 +98,19 @@ module _ {A : Type 0} where
       let f : x ≡ y = head-same e in
       cc
 
+  -- `m` elements read one by one from index i, as code writes them out; the reading side of `sets`
+  abbrev pub reads : List A → ℕ → ℕ → A → List A
+  reads l i zero d = []
+  reads l i (suc m) d = getD l i d ∷ reads l (suc i) m d
+
+  pub reads-eq : (l : List A) (i m : ℕ) (d : A) → i + m ≤ length l → reads l i m d ≡ take m (drop i l)
+  reads-eq l i zero d h = refl
+  reads-eq l i (suc m) d h = rw (drop-cons l i d (omega arith)) (ap (_∷_ (getD l i d)) (reads-eq l (suc i) m d (omega arith)))
+
+  -- an array is what is read at its places
+  pub reads-all : (l : List A) (m : ℕ) (d : A) → length l ≡ m → reads l 0 m d ≡ l
+  reads-all l m d e = reads-eq l 0 m d (omega arith) ∙ take-all m l (omega arith)
+
 module _ {A B : Type 0} (f : A → List B) where
   pub flat-append : (xs ys : List A) → flatMap f (xs ++ ys) ≡ flatMap f xs ++ flatMap f ys
   unfolding flatMap
@@ -116,6 +129,12 @@ module _ {A B : Type 0} (f : A → List B) where
       let b = length-flat n h xs in
       let c = h x in
       rw mul-suc (omega arith)
+
+module _ {A B C : Type 0} (f : B → List C) (g : A → B) where
+  pub flat-map : (xs : List A) → flatMap f (map g xs) ≡ flatMap (λ (a : A). f (g a)) xs
+  unfolding flatMap
+  flat-map [] = refl
+  flat-map (x ∷ xs) = ap (_++_ (f (g x))) (flat-map xs)
 
 -- a part of k further leaves one part less
 pub parts-left : (at k n j l : ℕ) → j < n → at + k * (n - j) ≡ l → at + k + k * (n - (j + 1)) ≡ l

@@ -2,15 +2,15 @@
 -- `w` where the next is written, `i` where the next is read, and `ys` the view of what stands at the front.
 -- With w ≡ i it is a map in place; with w ≤ i it packs what it keeps.
 use mathlib.Core.Path.{_≡_, refl, ap, sym, _∙_}
-use mathlib.Core.List.{List, [], _∷_, _++_, map, map-append}
 use mathlib.Core.Bool.{Bool, true, false}
-use Prim.Native.Nat.{ℕ, _+_, _-_, _≤_, _<_}
+use mathlib.Core.List.{List, [], _∷_, _++_, map, map-append, append-assoc, append-nil}
+use Prim.Native.Nat.{ℕ, suc, _+_, _-_, _≤_, _<_}
 use native.Mathlib.Numerals.{add-one}
 use native.Mathlib.Omega.{arith}
 use borrow.Author.Tests.{ltb-true, ltb-false}
 use lib.Dec.{ltb}
 use lib.ListN.{length, take, drop, getD, set, length-set, length-map, length-take}
-use lib.Seq.{take-suc-set, drop-set-lt, getD-drop, drop-drop}
+use lib.Seq.{sets, take-suc-set, drop-set-lt, getD-drop, drop-drop}
 use Rattle.lists.specs.Prefix.{take-more}
 use Rattle.lists.specs.Places.{without, without-none, without-more, without-past, map-without}
 
@@ -59,6 +59,16 @@ module _ {A B : Type 0} where
 
   pub pass-start : (s : A → B) (vs : List A) → Pass s [] 0 0 vs vs
   pass-start s vs = pass-from s 0 0 vs (omega arith)
+
+module _ {A B : Type 0} {s : A → B} {vs : List A} where
+  -- a run of stores
+  pub pass-keeps : {ys : List B} {i : ℕ} {ws : List A} (xs : List A) → Pass s ys i i ws vs → i + length xs ≤ length vs
+      → Pass s (ys ++ map s xs) (i + length xs) (i + length xs) (sets ws i xs) vs
+  pass-keeps {ys = ys} {i = i} [] p h = let e : i + 0 ≡ i = omega arith in rw (e, append-nil) p
+  pass-keeps {ys = ys} {i = i} (x ∷ xs) p h =
+      let e : suc i + length xs ≡ i + suc (length xs) = omega arith in
+      let q = pass-keeps xs (rw add-one at (pass-keep x (s x) refl p (omega arith))) (omega arith) in
+      rw (e, append-assoc) at q
 
 module _ {A B C : Type 0} where
   -- the view of one more element, through a function on views

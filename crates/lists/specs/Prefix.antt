@@ -68,6 +68,9 @@ module _ {A B : Type 0} where
   map-drop f (suc k) [] = refl
   map-drop f (suc k) (x ∷ xs) = map-drop f k xs
 
+  pub map-part : (f : A → B) (i m : ℕ) (xs : List A) → take m (drop i (map f xs)) ≡ map f (take m (drop i xs))
+  map-part f i m xs = rw (map-take f m (drop i xs), map-drop f i xs)
+
   pub map-set : (f : A → B) (xs : List A) (k : ℕ) (a : A) → map f (set xs k a) ≡ set (map f xs) k (f a)
   map-set f [] k a = refl
   map-set f (x ∷ xs) zero a = refl

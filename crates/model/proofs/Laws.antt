@@ -90,7 +90,7 @@ unfolding curve
 length-curve zero c = refl
 length-curve (suc n) c = ap suc (length-curve n (stepped c))
 
-length-curves : (n : ℕ) (vs : List Voice) → length (curves n vs) ≡ n * copiesIn vs
+pub length-curves : (n : ℕ) (vs : List Voice) → length (curves n vs) ≡ n * copiesIn vs
 unfolding curves flatMap
 length-curves n [] = omega arith
 length-curves n (v ∷ vs) =

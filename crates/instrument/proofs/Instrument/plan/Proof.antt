@@ -1,6 +1,6 @@
 use mathlib.Core.Path.{_≡_, refl, ap, sym, _∙_}
 use mathlib.Core.Logic.{⊎-elim}
-use Prim.Native.Nat.{ℕ, _+_, _-_, _*_, _≤_, _<_}
+use Prim.Native.Nat.{ℕ, _+_, _-_, _*_, _≤_}
 use native.Mathlib.Omega.{arith}
 use borrow.Author.Needs.{needs}
 use borrow.Author.Tests.{leb-true, eqb-true}
@@ -9,7 +9,6 @@ use lib.ListN.{length, getD}
 use Rattle.lists.specs.Choose.{both}
 use Rattle.lists.specs.Pass.{pass-read}
 use Rattle.model.specs.Types.{Call}
-use Rattle.design.specs.Accepted.{copiesOf}
 use Rattle.voice.specs.View.{shown}
 use Rattle.voice.proofs.Sizes.{pastEnd}
 use Rattle.instrument.specs.declared.Instrument.{Instrument}
@@ -23,34 +22,34 @@ use Rattle.instrument.proofs.Instrument.plan.Statement.{statement}
 use Rattle.instrument.proofs.Instrument.plan.Tie as tie
 
 abbrev Inv-loop : tie.InvT-loop
-Inv-loop frames vibrato filter tremolo-sine curve₀ self₀ number n at₀ i₀ curve self at i = Planning self₀ frames curve₀ self curve at i
+Inv-loop frames vib flt sin curve₀ self₀ number n at₀ i₀ curve self at i = Planning self₀ frames curve₀ self curve at i
 
 abbrev μ-loop : tie.MeasureT-loop
-μ-loop frames vibrato filter tremolo-sine curve₀ self₀ number n at₀ i₀ curve self at i = n - i
+μ-loop frames vib flt sin curve₀ self₀ number n at₀ i₀ curve self at i = n - i
 
 -- past the refusals
-accepted : (c : tie.Else1 Inv-loop μ-loop) → let a = c .before .before .before .args in refusalOf (a .t1) (Call.plan (a .frames) (a .vibrato) (a .filter) (a .tremolo-sine) (a .curve .now)) ≡ 0
+accepted : (c : tie.Else1 Inv-loop μ-loop) → let a = c .before .before .before .args in refusalOf (a .t1) (Call.plan (a .frames) (a .vib) (a .flt) (a .sin) (a .curve .now)) ≡ 0
 accepted c = sym (c .before .plan-refusal .ensures _ _ _ _ refl) ∙ c .if1 .left
 
 -- the state that the loop begins with
 module _ (j : tie.Joined2 Inv-loop μ-loop) where
-  modulated : let a = j .before .before .before .before .before .before .before .args in ModulatedAs (a .t1) (a .frames) (a .vibrato) (a .filter) (a .tremolo-sine) (j .if2 .self)
-  modulated =
-      let active = j .before .is-active .ensures in
+  modulates : let a = j .before .before .before .before .before .before .args in ModulatedAs (a .t1) (a .frames) (a .vib) (a .flt) (a .sin) (j .if2 .self)
+  modulates =
+      let active = j .before .modulated .ensures in
       ⊎-elim (λ x. rw (x .2) (modulated-on _ _ _ _ _ _ (sym active ∙ x .0 .taken) (x .1 .ensures))) (λ x. rw (x .1) (modulated-off _ _ _ _ _ (sym active ∙ x .0 .left))) (j .if2 .came)
 
   long : length (j .if2 .self .voices) ≡ 64
   long =
-      let start = j .before .before .before .before .before .before .before in
+      let start = j .before .before .before .before .before .before in
       let size : Instrument → ℕ = λ (s : Instrument). length (s .voices) in
       ⊎-elim (λ x. ap size (x .2) ∙ voices-long (x .1 .result) (x .1 .ok)) (λ x. ap size (x .1) ∙ voices-long (start .args .t1) (start .good .0)) (j .if2 .came)
 
   room : j .if2 .self .«voice_count» ≤ 64
-  room = plan-room _ _ _ _ _ _ (accepted (j .before .before .before .before)) _ modulated
+  room = plan-room _ _ _ _ _ _ (accepted (j .before .before .before)) _ modulates
 
 -- the part of the curve of the voice that is read
 module _ (d : tie.After-copies-shown Inv-loop μ-loop) where
-  ends : let b = d .before .before .before in b .loop .at + b .before .before .before .before .before .before .before .before .args .frames * d .copies-shown .result ≤ length (b .loop .curve)
+  ends : let b = d .before .before .before in b .loop .at + b .before .before .before .before .before .before .before .args .frames * d .copies-shown .result ≤ length (b .loop .curve)
   ends =
       let b = d .before .before .before in
       let j = b .before in
@@ -58,37 +57,29 @@ module _ (d : tie.After-copies-shown Inv-loop μ-loop) where
 
 -- where four voices go together
 module _ (e : tie.Then4 Inv-loop μ-loop) where
-  tests : let d = e .before .before .before .before in
-      let b = d .before .before .before in
-      (b .loop .i + 4 ≤ b .before .if2 .self .«voice_count») × (d .copies-shown .result ≡ 1)
+  abbrev counted : tie.After-copies-shown Inv-loop μ-loop
+  counted = e .before .before .before .before
+
+  abbrev turn : tie.At-loop Inv-loop μ-loop
+  turn = counted .before .before .before
+
+  tests : (turn .loop .i + 4 ≤ turn .before .if2 .self .«voice_count») × (counted .copies-shown .result ≡ 1)
   tests =
-      let d = e .before .before .before .before in
-      let b = d .before .before .before in
-      let left = b .before .if2 .self .«voice_count» - b .loop .i in
-      let x = both (leb 4 left) (eqb (d .copies-shown .result) 1) (sym (e .before .side-by-side .ensures) ∙ e .if4 .taken) in
-      let y : 4 ≤ left = leb-true 4 left (x .0) in
+      let left = turn .before .if2 .self .«voice_count» - (turn .loop .i + 1) in
+      let x = both (leb 3 left) (eqb (counted .copies-shown .result) 1) (sym (e .before .side-by-side .ensures) ∙ e .if4 .taken) in
+      let y : 3 ≤ left = leb-true 3 left (x .0) in
       (omega (arith, y), eqb-true _ _ (x .1))
 
-  -- every voice has the design's copies
-  alike : let j = e .before .before .before .before .before .before .before .before in
-      (k : ℕ) → k < j .if2 .self .«voice_count» → length (shown (getD (j .if2 .self .voices) k pastEnd) .copies) ≡ copiesOf (j .before .before .before .before .before .before .before .args .t1 .design)
-  alike = let j = e .before .before .before .before .before .before .before .before in plan-even _ _ _ _ _ _ (accepted (j .before .before .before .before)) _ (modulated j) (long j)
+  places : (turn .loop .i + 4 ≤ turn .before .if2 .self .«voice_count») × (turn .before .if2 .self .«voice_count» ≤ 64)
+  places = (tests .0, room (turn .before))
 
-  four-ends : let b = e .before .before .before .before .before .before .before in b .loop .at + 4 * b .before .before .before .before .before .before .before .before .args .frames ≤ length (b .loop .curve)
+  one : length (shown (getD (turn .loop .self .voices) (turn .loop .i) pastEnd) .copies) ≡ 1
+  one = sym (counted .copies-shown .ensures .1) ∙ tests .1
+
+  four-ends : turn .loop .at + turn .before .before .before .before .before .before .before .args .frames * 4 ≤ length (turn .loop .curve)
   four-ends =
-      let d = e .before .before .before .before in
-      let b = d .before .before .before in
-      let j = b .before in
-      four-room (j .if2 .self) _ _ (long j) (room j) (b .loop .inv) _ alike (tests .0) _ (d .copies-shown .ensures .1) (tests .1)
-
--- the four are back: their places
-module _ (c : tie.After-wd Inv-loop μ-loop) where
-  abbrev way : tie.Then4 Inv-loop μ-loop
-  way = c .before .before .before .before .before .before .before .before .before .before .before
-
-  places : let b = way .before .before .before .before .before .before .before in
-      (b .loop .i + 4 ≤ b .before .if2 .self .«voice_count») × (b .before .if2 .self .«voice_count» ≤ 64)
-  places = (tests way .0, room (way .before .before .before .before .before .before .before .before))
+      let j = turn .before in
+      four-room (j .if2 .self) _ _ (long j) (room j) (turn .loop .inv) _ (plan-even _ _ _ _ _ _ (accepted (j .before .before .before)) _ (modulates j)) (tests .0) one _ refl
 
 plan-refusal-requires : tie.Need-plan-refusal-requires Inv-loop μ-loop
 plan-refusal-requires c κs = search needs
@@ -99,14 +90,14 @@ refused-requires c κs = search needs
 returns : tie.Need-returns Inv-loop μ-loop
 returns c = plan-refused _ _ _ _ _ _ _ _ (c .before .before .plan-refusal .ensures _ _ _ _ refl) (c .before .if1 .taken) (c .refused .ensures)
 
-is-active-requires : tie.Need-is-active-requires Inv-loop μ-loop
-is-active-requires c κs = search needs
+modulated-requires : tie.Need-modulated-requires Inv-loop μ-loop
+modulated-requires c κs = search needs
 
 apply-modulation-requires : tie.Need-apply-modulation-requires Inv-loop μ-loop
-apply-modulation-requires c κs = plan-fits _ _ _ _ _ _ (accepted (c .before .before .before .before))
+apply-modulation-requires c κs = plan-fits _ _ _ _ _ _ (accepted (c .before .before .before))
 
 loop-holds : tie.Need-loop-holds Inv-loop μ-loop
-loop-holds c = planning-start _ _ _ (plan-size _ _ _ _ _ _ (accepted (c .before .before .before .before)) _ (modulated c))
+loop-holds c = planning-start _ _ _ (plan-size _ _ _ _ _ _ (accepted (c .before .before .before)) _ (modulates c))
 
 mul-v : tie.Need-mul-v Inv-loop μ-loop
 mul-v c = omega (arith, room (c .before .before), c .loop-test .taken)
@@ -122,6 +113,9 @@ mul-end c = omega (arith, ends c)
 
 add-end : tie.Need-add-end Inv-loop μ-loop
 add-end c = omega (arith, ends c)
+
+add-i : tie.Need-add-i Inv-loop μ-loop
+add-i c = omega (arith, room (c .before .before .before .before))
 
 stands-requires : tie.Need-stands-requires Inv-loop μ-loop
 stands-requires c κs = search needs
@@ -141,9 +135,6 @@ part-write-voice-end c = let e = ends (c .before .before) in omega (arith, e)
 write-voice-requires : tie.Need-write-voice-requires Inv-loop μ-loop
 write-voice-requires c κs = search needs
 
-add-i : tie.Need-add-i Inv-loop μ-loop
-add-i c = let b = c .before .before .before .before .before .before .before .before .before in omega (arith, room (b .before))
-
 loop-less : tie.Need-loop-less Inv-loop μ-loop
 loop-less c = omega arith
 
@@ -155,11 +146,10 @@ loop-again c =
     let b = d .before .before .before in
     let j = b .before in
     let rows = d .copies-shown .result in
-    let frames = j .before .before .before .before .before .before .before .args .frames in
+    let frames = j .before .before .before .before .before .before .args .frames in
     let k : b .loop .at + frames * rows - b .loop .at ≡ frames * rows = omega arith in
     let v = getD (b .loop .self .voices) (b .loop .i) pastEnd in
-    let r = d .copies-shown .ensures .1 in
-    voice-stays (j .if2 .self) _ _ (long j) (room j) (b .loop .inv) (d .before .before .loop-test .taken) v (pass-read pastEnd (b .loop .inv .pass)) rows r refl _ _ _ k (n .before .stands .ensures .stays (n .if3 .taken) frames) (g .write-voice .ensures) refl (rw (b .loop .inv .size) at (c .before .curve .given .1))
+    voice-stays (j .if2 .self) _ _ (long j) (room j) (b .loop .inv) (d .before .before .loop-test .taken) v (pass-read pastEnd (b .loop .inv .pass)) rows (d .copies-shown .ensures .1) refl _ _ _ k (n .before .stands .ensures .stays (n .if3 .taken) frames) (g .write-voice .ensures) refl
 
 sub-side-by-side : tie.Need-sub-side-by-side Inv-loop μ-loop
 sub-side-by-side c = omega arith
@@ -167,38 +157,35 @@ sub-side-by-side c = omega arith
 side-by-side-requires : tie.Need-side-by-side-requires Inv-loop μ-loop
 side-by-side-requires c κs = search needs
 
-add-b : tie.Need-add-b Inv-loop μ-loop
-add-b c = let e = c in let t = tests e .0 in omega (arith, t, room (e .before .before .before .before .before .before .before .before))
-
-mul-b : tie.Need-mul-b Inv-loop μ-loop
-mul-b c = let e = c in let t = tests e .0 in omega (arith, t, room (e .before .before .before .before .before .before .before .before))
-
-element-copy-out-b : tie.Need-element-copy-out-b Inv-loop μ-loop
-element-copy-out-b c = let e = c in let t = tests e .0 in omega (arith, t, room (e .before .before .before .before .before .before .before .before))
-
-add-c : tie.Need-add-c Inv-loop μ-loop
-add-c c = let e = c .before in let t = tests e .0 in omega (arith, t, room (e .before .before .before .before .before .before .before .before))
-
-mul-c : tie.Need-mul-c Inv-loop μ-loop
-mul-c c = let e = c .before in let t = tests e .0 in omega (arith, t, room (e .before .before .before .before .before .before .before .before))
-
-element-copy-out-c : tie.Need-element-copy-out-c Inv-loop μ-loop
-element-copy-out-c c = let e = c .before in let t = tests e .0 in omega (arith, t, room (e .before .before .before .before .before .before .before .before))
-
-add-d : tie.Need-add-d Inv-loop μ-loop
-add-d c = let e = c .before .before in let t = tests e .0 in omega (arith, t, room (e .before .before .before .before .before .before .before .before))
-
-mul-d : tie.Need-mul-d Inv-loop μ-loop
-mul-d c = let e = c .before .before in let t = tests e .0 in omega (arith, t, room (e .before .before .before .before .before .before .before .before))
-
-element-copy-out-d : tie.Need-element-copy-out-d Inv-loop μ-loop
-element-copy-out-d c = let e = c .before .before in let t = tests e .0 in omega (arith, t, room (e .before .before .before .before .before .before .before .before))
-
 mul-last : tie.Need-mul-last Inv-loop μ-loop
-mul-last c = let q = four-ends (c .before .before .before) in omega (arith, q)
+mul-last c = let q = four-ends c in omega (arith, q)
 
 add-last : tie.Need-add-last Inv-loop μ-loop
-add-last c = let q = four-ends (c .before .before .before) in omega (arith, q)
+add-last c = let q = four-ends c in omega (arith, q)
+
+mul-self : tie.Need-mul-self Inv-loop μ-loop
+mul-self c = let p = places c in omega (arith, p .0, p .1)
+
+element-copy-out-self : tie.Need-element-copy-out-self Inv-loop μ-loop
+element-copy-out-self c = let p = places c in omega (arith, p .0, p .1)
+
+add-self : tie.Need-add-self Inv-loop μ-loop
+add-self c = let p = places (c .before) in omega (arith, p .0, p .1)
+
+mul-self-2 : tie.Need-mul-self-2 Inv-loop μ-loop
+mul-self-2 c = let p = places (c .before) in omega (arith, p .0, p .1)
+
+element-copy-out-self-2 : tie.Need-element-copy-out-self-2 Inv-loop μ-loop
+element-copy-out-self-2 c = let p = places (c .before) in omega (arith, p .0, p .1)
+
+add-self-2 : tie.Need-add-self-2 Inv-loop μ-loop
+add-self-2 c = let p = places (c .before .before) in omega (arith, p .0, p .1)
+
+mul-self-3 : tie.Need-mul-self-3 Inv-loop μ-loop
+mul-self-3 c = let p = places (c .before .before) in omega (arith, p .0, p .1)
+
+element-copy-out-self-3 : tie.Need-element-copy-out-self-3 Inv-loop μ-loop
+element-copy-out-self-3 c = let p = places (c .before .before) in omega (arith, p .0, p .1)
 
 mul-glide-voices : tie.Need-mul-glide-voices Inv-loop μ-loop
 mul-glide-voices c = let q = four-ends (c .before .before .before) in omega (arith, q)
@@ -215,59 +202,67 @@ part-glide-voices-end c = let q = four-ends (c .before .before .before) in omega
 glide-voices-requires : tie.Need-glide-voices-requires Inv-loop μ-loop
 glide-voices-requires c κs = search needs
 
-mul-wa : tie.Need-mul-wa Inv-loop μ-loop
-mul-wa c = let p = places c in omega (arith, p .0, p .1)
+array-copy-out-self : tie.Need-array-copy-out-self Inv-loop μ-loop
+array-copy-out-self c = search needs
 
-element-set-from-wa : tie.Need-element-set-from-wa Inv-loop μ-loop
-element-set-from-wa c = let p = places c in omega (arith, p .0, p .1)
+sub-t44 : tie.Need-sub-t44 Inv-loop μ-loop
+sub-t44 c = let p = places (c .before .before .before .before .before .before .before .before) in omega (arith, p .0, p .1)
 
-add-wb : tie.Need-add-wb Inv-loop μ-loop
-add-wb c = let p = places c in omega (arith, p .0, p .1)
+mul-t40 : tie.Need-mul-t40 Inv-loop μ-loop
+mul-t40 c = let p = places (c .before .before .before .before .before .before .before .before) in omega (arith, p .0, p .1)
 
-mul-wb : tie.Need-mul-wb Inv-loop μ-loop
-mul-wb c = let p = places c in omega (arith, p .0, p .1)
+element-set-from-self : tie.Need-element-set-from-self Inv-loop μ-loop
+element-set-from-self c = let p = places (c .before .before .before .before .before .before .before .before) in omega (arith, p .0, p .1)
 
-element-set-from-wb : tie.Need-element-set-from-wb Inv-loop μ-loop
-element-set-from-wb c = let p = places c in omega (arith, p .0, p .1)
+array-copy-out-self-2 : tie.Need-array-copy-out-self-2 Inv-loop μ-loop
+array-copy-out-self-2 c = search needs
 
-add-wc : tie.Need-add-wc Inv-loop μ-loop
-add-wc c = let p = places c in omega (arith, p .0, p .1)
+mul-self-4 : tie.Need-mul-self-4 Inv-loop μ-loop
+mul-self-4 c = let p = places (c .before .before .before .before .before .before .before .before .before) in omega (arith, p .0, p .1)
 
-mul-wc : tie.Need-mul-wc Inv-loop μ-loop
-mul-wc c = let p = places c in omega (arith, p .0, p .1)
+element-set-from-self-2 : tie.Need-element-set-from-self-2 Inv-loop μ-loop
+element-set-from-self-2 c = let p = places (c .before .before .before .before .before .before .before .before .before) in omega (arith, p .0, p .1)
 
-element-set-from-wc : tie.Need-element-set-from-wc Inv-loop μ-loop
-element-set-from-wc c = let p = places c in omega (arith, p .0, p .1)
+array-copy-out-self-3 : tie.Need-array-copy-out-self-3 Inv-loop μ-loop
+array-copy-out-self-3 c = search needs
 
-add-wd : tie.Need-add-wd Inv-loop μ-loop
-add-wd c = let p = places c in omega (arith, p .0, p .1)
+add-t44 : tie.Need-add-t44 Inv-loop μ-loop
+add-t44 c = let p = places (c .before .before .before .before .before .before .before .before .before .before) in omega (arith, p .0, p .1)
 
-mul-wd : tie.Need-mul-wd Inv-loop μ-loop
-mul-wd c = let p = places c in omega (arith, p .0, p .1)
+mul-t50 : tie.Need-mul-t50 Inv-loop μ-loop
+mul-t50 c = let p = places (c .before .before .before .before .before .before .before .before .before .before) in omega (arith, p .0, p .1)
 
-element-set-from-wd : tie.Need-element-set-from-wd Inv-loop μ-loop
-element-set-from-wd c = let p = places c in omega (arith, p .0, p .1)
+element-set-from-self-3 : tie.Need-element-set-from-self-3 Inv-loop μ-loop
+element-set-from-self-3 c = let p = places (c .before .before .before .before .before .before .before .before .before .before) in omega (arith, p .0, p .1)
+
+array-copy-out-self-4 : tie.Need-array-copy-out-self-4 Inv-loop μ-loop
+array-copy-out-self-4 c = search needs
+
+add-t50 : tie.Need-add-t50 Inv-loop μ-loop
+add-t50 c = let p = places (c .before .before .before .before .before .before .before .before .before .before .before) in omega (arith, p .0, p .1)
+
+mul-t44 : tie.Need-mul-t44 Inv-loop μ-loop
+mul-t44 c = let p = places (c .before .before .before .before .before .before .before .before .before .before .before) in omega (arith, p .0, p .1)
+
+element-set-from-self-4 : tie.Need-element-set-from-self-4 Inv-loop μ-loop
+element-set-from-self-4 c = let p = places (c .before .before .before .before .before .before .before .before .before .before .before) in omega (arith, p .0, p .1)
 
 add-i-2 : tie.Need-add-i-2 Inv-loop μ-loop
-add-i-2 c = let p = places c in omega (arith, p .0, p .1)
+add-i-2 c = let p = places (c .before .before .before .before .before .before .before .before .before .before .before) in omega (arith, p .0, p .1)
 
 loop-less-2 : tie.Need-loop-less-2 Inv-loop μ-loop
-loop-less-2 c = let p = places c in omega (arith, p .0, p .1)
+loop-less-2 c = let p = places (c .before .before .before .before .before .before .before .before .before .before .before) in omega (arith, p .0, p .1)
 
 loop-again-2 : tie.Need-loop-again-2 Inv-loop μ-loop
 unfolding blockedAs
 loop-again-2 c =
     let g = c .before .before .before .before .before .before in
-    let e = way c in
-    let d = e .before .before .before .before in
-    let b = d .before .before .before in
+    let e = g .before .before .before .before .before in
+    let b = turn e in
     let j = b .before in
-    let t = j .if2 .self in
-    let frames = j .before .before .before .before .before .before .before .args .frames in
-    let q : b .loop .at + 4 * frames - b .loop .at ≡ 4 * frames = omega arith in
-    let r = d .copies-shown .ensures .1 in
-    four-glide t _ _ (long j) (room j) (b .loop .inv) _ (alike e) (tests e .0) _ r (tests e .1) (g .glide-voices .result) _ _ _ _ q (g .glide-voices .ensures) refl
-    (rw (b .loop .inv .size) at (c .before .before .before .before .before .curve2 .given .1)) refl
+    let frames = j .before .before .before .before .before .before .args .frames in
+    let q : b .loop .at + frames * 4 - b .loop .at ≡ frames * 4 = omega arith in
+    four-glide (j .if2 .self) _ _ (long j) (room j) (b .loop .inv) _ (plan-even _ _ _ _ _ _ (accepted (j .before .before .before)) _ (modulates j)) (tests e .0) (one e) _ refl (g .glide-voices .result) _ _ _ _ q (g .glide-voices .ensures) refl refl
 
 mul-glide-voice : tie.Need-mul-glide-voice Inv-loop μ-loop
 mul-glide-voice c = omega (arith, ends (c .before .before .before .before))
@@ -284,14 +279,14 @@ part-glide-voice-end c = let e = ends (c .before .before .before .before) in ome
 glide-voice-requires : tie.Need-glide-voice-requires Inv-loop μ-loop
 glide-voice-requires c κs = search needs
 
-mul-w : tie.Need-mul-w Inv-loop μ-loop
-mul-w c = omega (arith, room (c .before .before .before .before .before .before .before .before .before .before .before .before))
+sub-t80 : tie.Need-sub-t80 Inv-loop μ-loop
+sub-t80 c = omega (arith, room (c .before .before .before .before .before .before .before .before .before .before .before .before))
 
-element-set-from-w : tie.Need-element-set-from-w Inv-loop μ-loop
-element-set-from-w c = omega (arith, room (c .before .before .before .before .before .before .before .before .before .before .before .before))
+mul-t81 : tie.Need-mul-t81 Inv-loop μ-loop
+mul-t81 c = omega (arith, room (c .before .before .before .before .before .before .before .before .before .before .before .before))
 
-add-i-3 : tie.Need-add-i-3 Inv-loop μ-loop
-add-i-3 c = omega (arith, room (c .before .before .before .before .before .before .before .before .before .before .before .before))
+element-set-from-self-5 : tie.Need-element-set-from-self-5 Inv-loop μ-loop
+element-set-from-self-5 c = omega (arith, room (c .before .before .before .before .before .before .before .before .before .before .before .before))
 
 loop-less-3 : tie.Need-loop-less-3 Inv-loop μ-loop
 loop-less-3 c = omega arith
@@ -304,11 +299,10 @@ loop-again-3 c =
     let b = d .before .before .before in
     let j = b .before in
     let rows = d .copies-shown .result in
-    let frames = j .before .before .before .before .before .before .before .args .frames in
+    let frames = j .before .before .before .before .before .before .args .frames in
     let k : b .loop .at + frames * rows - b .loop .at ≡ frames * rows = omega arith in
     let v = getD (b .loop .self .voices) (b .loop .i) pastEnd in
-    let r = d .copies-shown .ensures .1 in
-    voice-glides (j .if2 .self) _ _ (long j) (room j) (b .loop .inv) (d .before .before .loop-test .taken) v (pass-read pastEnd (b .loop .inv .pass)) rows r _ _ _ _ _ k (g .glide-voice .ensures) refl (rw (b .loop .inv .size) at (c .before .curve3 .given .1)) refl
+    voice-glides (j .if2 .self) _ _ (long j) (room j) (b .loop .inv) (d .before .before .loop-test .taken) v (pass-read pastEnd (b .loop .inv .pass)) rows (d .copies-shown .ensures .1) _ _ _ _ _ k (g .glide-voice .ensures) refl refl
 
 answered-requires : tie.Need-answered-requires Inv-loop μ-loop
 answered-requires c κs = search needs
@@ -324,7 +318,7 @@ returns-2 c =
     let t = j .if2 .self in
     let p = b .loop .inv in
     let end = c .before .loop-test .left in
-    plan-done _ _ _ _ _ _ (accepted (j .before .before .before .before)) t (modulated j) (b .loop .self .voices) _ _ (planned-voices t _ _ (long j) (room j) p end) (planned-curve t _ _ (long j) (room j) p end)
+    plan-done _ _ _ _ _ _ (accepted (j .before .before .before)) t (modulates j) (b .loop .self .voices) _ _ (planned-voices t _ _ (long j) (room j) p end) (planned-curve t _ _ (long j) (room j) p end)
     (c .answered .ensures ∙ ap (answeredAs Planned) (planned-state t _ _ (long j) (room j) p end))
 
 pub plan-spec : {M : Type 1} → statement M
@@ -336,7 +330,7 @@ plan-spec =
     plan-refusal-requires
     refused-requires
     returns
-    is-active-requires
+    modulated-requires
     apply-modulation-requires
     loop-holds
     mul-v
@@ -344,44 +338,47 @@ plan-spec =
     copies-shown-requires
     mul-end
     add-end
+    add-i
     stands-requires
     mul-write-voice
     sub-write-voice
     part-write-voice-start
     part-write-voice-end
     write-voice-requires
-    add-i
     loop-less
     loop-again
     sub-side-by-side
     side-by-side-requires
-    add-b
-    mul-b
-    element-copy-out-b
-    add-c
-    mul-c
-    element-copy-out-c
-    add-d
-    mul-d
-    element-copy-out-d
     mul-last
     add-last
+    mul-self
+    element-copy-out-self
+    add-self
+    mul-self-2
+    element-copy-out-self-2
+    add-self-2
+    mul-self-3
+    element-copy-out-self-3
     mul-glide-voices
     sub-glide-voices
     part-glide-voices-start
     part-glide-voices-end
     glide-voices-requires
-    mul-wa
-    element-set-from-wa
-    add-wb
-    mul-wb
-    element-set-from-wb
-    add-wc
-    mul-wc
-    element-set-from-wc
-    add-wd
-    mul-wd
-    element-set-from-wd
+    array-copy-out-self
+    sub-t44
+    mul-t40
+    element-set-from-self
+    array-copy-out-self-2
+    mul-self-4
+    element-set-from-self-2
+    array-copy-out-self-3
+    add-t44
+    mul-t50
+    element-set-from-self-3
+    array-copy-out-self-4
+    add-t50
+    mul-t44
+    element-set-from-self-4
     add-i-2
     loop-less-2
     loop-again-2
@@ -390,9 +387,9 @@ plan-spec =
     part-glide-voice-start
     part-glide-voice-end
     glide-voice-requires
-    mul-w
-    element-set-from-w
-    add-i-3
+    sub-t80
+    mul-t81
+    element-set-from-self-5
     loop-less-3
     loop-again-3
     answered-requires
