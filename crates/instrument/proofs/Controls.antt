@@ -18,7 +18,7 @@ use Rattle.model.specs.Voices.{releasedVoice, withCopies, changed, isPlace, pla
 use Rattle.model.specs.Controls.{liftedVoice, pedalOf, releaseOf, allOffOf, bendOf, brightnessOf}
 use Rattle.voices.specs.View.{seenFirst, voicesOf, inRoom}
 use Rattle.voice.specs.Changes.{onSeen, noSeen}
-use Rattle.voices.specs.Changes.{map-seen, changed-seen, room-map, room-set}
+use Rattle.voices.proofs.Changes.{map-seen, changed-seen, room-map, room-set}
 use Rattle.voice.specs.declared.Voice.{Voice}
 use Rattle.instrument.specs.View.{view, counted}
 use Rattle.instrument.specs.Calls.{CallAs, answeredAs, placedAs, holdingOf, Gives}

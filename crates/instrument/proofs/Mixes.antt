@@ -28,7 +28,7 @@ use Rattle.voice.specs.View.{Seen, shown, seen}
 use Rattle.voice.specs.Changes.{onSeen}
 use Rattle.voice.proofs.Sizes.{pastEnd}
 use Rattle.voices.specs.View.{seenFirst, voicesOf, inRoom}
-use Rattle.voices.specs.Changes.{map-seen, room-map}
+use Rattle.voices.proofs.Changes.{map-seen, room-map}
 use Rattle.voices.proofs.Table.{table, table-size, in-table, read-here, rows-left}
 use Rattle.render.specs.Mixes.{Fits, AddedAs, FitsOut}
 use Rattle.render.proofs.Parts.{voice-more, first-sums}

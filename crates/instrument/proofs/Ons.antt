@@ -27,7 +27,7 @@ use Rattle.voice.specs.View.{Seen, seen}
 use Rattle.voices.specs.View.{seenFirst, voicesOf, inRoom}
 use Rattle.voice.specs.Changes.{onSeen, noSeen}
 use Rattle.voice.specs.declared.VoiceChange.the-variants.{Keep}
-use Rattle.voices.specs.Changes.{changed-seen, room-set, room-without}
+use Rattle.voices.proofs.Changes.{changed-seen, room-set, room-without}
 use Rattle.voices.specs.Steal.{FoundFirst, takenAt, StolenFrom}
 use Rattle.voices.proofs.Stealing.{taken-le, taken-inside, room-made, killed-is, taken-is}
 use Rattle.voices.specs.declared.Found.{Found}

@@ -74,7 +74,7 @@ pub enum Reply {
     Refused(u8),
 }
 
-// The state comes first: compiled code then moves it in one piece, apart from the reply.
+// The state comes first: compiled code then moves it in one piece, and the reply by itself.
 pub struct Outcome {
     pub state: Instrument,
     pub reply: Reply,
@@ -89,9 +89,9 @@ pub enum MixReply {
 
 pub struct MixOutcome {
     pub state: Instrument,
+    pub reply: MixReply,
     // The handles of the voices that ended, in table order, with zeros behind.
     pub ended: [u64; 64],
-    pub reply: MixReply,
 }
 
 // What a query answers.
@@ -672,7 +672,8 @@ impl Instrument {
         spawn_voice(stolen, n, next, held)
     }
 
-    // Starts a note, or goes on with the Mono voice; at velocity 0 it is a note-off.
+    // Starts a note, or goes on with the Mono voice; at velocity 0 it is a note-off. In the table one voice is changed, those
+    // behind a voice that is taken out move down, and the new one is added.
     pub fn note_on(mut self, note: u8, velocity: f32, built: bool) -> Outcome
         ensures { λ r. ⌜ CallAs self (Call.noteOn note velocity built) r ⌝ }
     {

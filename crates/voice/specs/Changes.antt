@@ -3,7 +3,7 @@ use mathlib.Core.Bool.{Bool}
 use Rattle.stream.specs.declared.UnisonCopy.{UnisonCopy}
 use Rattle.stream.specs.Pitch.{bent, cutTo, glidedTo}
 use Rattle.model.specs.Types as model
-use Rattle.model.specs.Voices.{killedVoice, withCopies, aimedAt, anyVoice, sounding, hasHandle}
+use Rattle.model.specs.Voices.{killedVoice, withCopies, aimedAt, sounding, hasHandle}
 use Rattle.model.specs.Notes.{offVoice, plays, keptVoice}
 use Rattle.model.specs.Queries.{soundsNote}
 use Rattle.voice.specs.declared.CopyChange.{CopyChange}
@@ -11,7 +11,7 @@ use Rattle.voice.specs.declared.CopyChange.the-variants.{Bend, Aim, Wobb
 use Rattle.voice.specs.declared.VoiceChange.{VoiceChange}
 use Rattle.voice.specs.declared.VoiceChange.the-variants.{Kill, Off, Copies, AimAt, Keep}
 use Rattle.voice.specs.declared.VoiceTest.{VoiceTest}
-use Rattle.voice.specs.declared.VoiceTest.the-variants.{Any, Sounding, Handle, Plays, SoundsNote}
+use Rattle.voice.specs.declared.VoiceTest.the-variants.{Sounding, Handle, Plays, SoundsNote}
 use Rattle.voice.specs.View.{Seen}
 
 abbrev pub copyChanged : CopyChange → UnisonCopy → UnisonCopy
@@ -27,7 +27,6 @@ voiceChanged (AimAt note coeff) v = aimedAt coeff note v
 voiceChanged (Keep note coeff legato velocity) v = keptVoice coeff legato note velocity v
 
 abbrev pub testOf : VoiceTest → model.Voice → Bool
-testOf Any v = anyVoice v
 testOf Sounding v = sounding v
 testOf (Handle h) v = hasHandle h v
 testOf (Plays n) v = plays n v

@@ -58,7 +58,6 @@ pub enum VoiceChange {
 
 // What may be asked of a voice.
 pub enum VoiceTest {
-    Any,
     Sounding,
     Handle(u64),
     // Of the note, neither releasing nor sustained.
@@ -247,7 +246,6 @@ impl Voice {
         ensures { λ r. ⌜ r ≡ testOf test (shown self) ⌝ }
     {
         match test {
-            VoiceTest::Any => true,
             VoiceTest::Sounding => !self.releasing,
             VoiceTest::Handle(h) => self.handle == h,
             VoiceTest::Plays(note) => self.plays(note),

@@ -3,16 +3,15 @@
 
 ghost use mathlib.Core.Path.{_≡_};
 ghost use mathlib.Core.Bool.{true};
-ghost use mathlib.Core.List.{map, _++_, [], _∷_};
+ghost use mathlib.Core.List.{_++_, [], _∷_};
 ghost use Prim.Native.Nat.{_+_, _*_, _<_, _≤_, min};
 ghost use lib.Dec.{eqb};
 ghost use Rattle.lists.specs.Count.{oneIf, count};
 ghost use Rattle.voice.specs.View.{seen};
-ghost use Rattle.voice.specs.Changes.{voiceChanged, testOf, onSeen};
+ghost use Rattle.voice.specs.Changes.{testOf};
 ghost use Rattle.voices.specs.View.{seenFirst, voicesOf};
 ghost use Rattle.voices.specs.Steal.{FoundFirst};
 use voice::Voice;
-use voice::VoiceChange;
 use voice::VoiceTest;
 
 pub mod steal;
@@ -22,20 +21,6 @@ fn room(n: usize) -> usize
     ensures { λ r. ⌜ r ≡ min n 64 ⌝ }
 {
     if n < 64 { n } else { 64 }
-}
-
-// Every voice of the table, changed.
-pub fn change_all(vs: [Voice; 64], n: usize, change: VoiceChange) -> [Voice; 64]
-    ensures { λ r. ⌜ seenFirst n r ≡ map (onSeen (voiceChanged change)) (seenFirst n vs) ⌝ }
-{
-    let m = room(n);
-    let mut ws = vs;
-    let mut i: usize = 0;
-    while i < m {
-        ws[i] = ws[i].changed(change);
-        i += 1;
-    }
-    ws
 }
 
 fn one_if(b: bool) -> usize

@@ -13,9 +13,6 @@ within v d e h = ap (λ (k : VoiceTest). testOf k v) (sym h)
 enum-told : tie.Need-enum-told
 enum-told c = search needs
 
-enum-told-2 : tie.Need-enum-told-2
-enum-told-2 c = search needs
-
 enum-known-test : tie.Need-enum-known-test
 enum-known-test c = search needs
 
@@ -32,28 +29,24 @@ sounds-note-requires : tie.Need-sounds-note-requires
 sounds-note-requires c κs = search needs
 
 returns : tie.Need-returns
-returns c = within _ _ _ (c .enum-told .given .1)
+unfolding shown
+returns c = within _ _ _ (c .before .enum-told .given .1)
 
 returns-2 : tie.Need-returns-2
 unfolding shown
-returns-2 c = within _ _ _ (c .before .enum-told2 .given .1)
+returns-2 c = within _ _ _ (c .before .before .test .given .1)
 
 returns-3 : tie.Need-returns-3
-unfolding shown
-returns-3 c = within _ _ _ (c .before .before .test .given .1)
+returns-3 c = c .plays .ensures ∙ within _ _ _ (c .before .before .test2 .given .1)
 
 returns-4 : tie.Need-returns-4
-returns-4 c = c .plays .ensures ∙ within _ _ _ (c .before .before .test2 .given .1)
-
-returns-5 : tie.Need-returns-5
-returns-5 c = c .sounds-note .ensures ∙ within _ _ _ (c .before .before .test3 .given .1)
+returns-4 c = c .sounds-note .ensures ∙ within _ _ _ (c .before .before .test3 .given .1)
 
 pub passes-spec : {M : Type 1} → statement M
 passes-spec =
     tie.close
     (tie.spec
     enum-told
-    enum-told-2
     enum-known-test
     enum-known-test-2
     plays-requires
@@ -62,5 +55,4 @@ passes-spec =
     returns
     returns-2
     returns-3
-    returns-4
-    returns-5)
+    returns-4)
