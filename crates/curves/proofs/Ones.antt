@@ -1,26 +1,24 @@
 -- Voices of one copy: what their only copy makes of them.
 use mathlib.Core.Path.{_≡_, refl, ap, sym, _∙_}
 use mathlib.Core.Bool.{Bool, true, _&&_, and-true}
-use mathlib.Core.List.{List, [], _∷_, _++_, map, flatMap, zipWith, append-assoc, append-nil}
-use Prim.Native.Nat.{ℕ, zero, suc, _+_, _*_, _≤_}
+use mathlib.Core.List.{List, [], _∷_, map, flatMap, zipWith, map-map, append-nil}
+use Prim.Native.Nat.{ℕ, zero, suc, _*_}
 use native.Mathlib.Omega.{arith}
 use borrow.Author.Tests.{eqb-true}
 use lib.Dec.{eqb}
 use lib.Ieee.{Float}
-use lib.ListN.{length, take, set, getD}
-use lib.Seq.{take-all}
+use lib.ListN.{length, take, set, getD, length-take}
 use Rattle.lists.specs.All.{all}
 use Rattle.lists.specs.Choose.{both}
-use Rattle.lists.specs.Parts.{no-length}
+use Rattle.lists.specs.Parts.{no-length, flat-map}
 use Rattle.stream.specs.declared.UnisonCopy.{UnisonCopy}
-use Rattle.stream.specs.Pitch.{glided, curve}
+use Rattle.stream.specs.Pitch.{glided, curve, GlidedOver}
 use Rattle.model.specs.Voices.{withCopies, withVoice}
 use Rattle.voice.specs.declared.Voice.{Voice}
 use Rattle.voice.specs.View.{shown, seen}
 use Rattle.voice.specs.Changes.{onSeen}
 use Rattle.voice.proofs.Sizes.{noCopy}
-use Rattle.curves.specs.declared.Four.{Four}
-use Rattle.curves.specs.Glides.{voiceCurve, FourGlided, single, withOnly, VoicesFit, GlidedVoices}
+use Rattle.curves.specs.Glides.{voiceCurve, WrittenVoice, GlidedCopies, single, withOnly, VoicesFit, GlidedVoices}
 
 -- the only one of a front
 only : (n : ℕ) (cs : List UnisonCopy) → length (take n cs) ≡ 1 → take n cs ≡ getD cs 0 noCopy ∷ []
@@ -40,6 +38,16 @@ put-only n cs c e = put n cs c e ∙ ap (map (λ _. c)) (sym (only n cs e))
 abbrev pub first : Voice → UnisonCopy
 first v = getD (v .copies) 0 noCopy
 
+-- a voice that counts one
+module _ (v : Voice) (long : length (v .copies) ≡ 8) (e : v .«copy_count» ≡ 1) where
+  pub one-shown : length (shown v .copies) ≡ 1
+  unfolding shown
+  one-shown = let l = length-take (v .«copy_count») (v .copies) in omega arith
+
+  pub only-one : take (v .«copy_count») (v .copies) ≡ first v ∷ []
+  unfolding shown
+  only-one = only (v .«copy_count») (v .copies) one-shown
+
 module _ (n : ℕ) (v : Voice) (one : length (shown v .copies) ≡ 1) where
   only-glides : (c : UnisonCopy) → c ≡ glided n (first v) → onSeen (withCopies (λ _. c)) (seen v) ≡ onSeen (withCopies (glided n)) (seen v)
   unfolding seen shown onSeen withCopies withVoice
@@ -48,6 +56,15 @@ module _ (n : ℕ) (v : Voice) (one : length (shown v .copies) ≡ 1) where
   only-curve : curve n (first v) ≡ voiceCurve n v
   unfolding shown flatMap
   only-curve = rw (only (v .«copy_count») (v .copies) one) (sym (append-nil (curve n (first v))))
+
+  -- its numbers in a curve of this size, and of another
+  pub only-written : {old new : List Float} {d : UnisonCopy} → length old ≡ n → GlidedOver (first v) old new d → WrittenVoice n v old new
+  only-written {old} {new} size g =
+      let fit : n * 1 ≡ length old = omega arith in
+      record { numbers = λ _. rw size at (g .numbers) ∙ only-curve; other = λ no. absurd (no (rw one fit)) }
+
+  pub only-left : {old : List Float} → (length old ≡ n → ⊥) → WrittenVoice n v old old
+  only-left {old} unfit = record { numbers = λ h. let f : n * 1 ≡ length old = rw one at h in absurd (unfit (omega arith)); other = λ _. refl }
 
 -- the same of a list of such voices
 module _ (n : ℕ) where
@@ -62,17 +79,14 @@ module _ (n : ℕ) where
   singles-curve (v ∷ vs) e = let h = both (single v) (all single vs) e in rw (only-curve n v (eqb-true _ _ (h .0)), singles-curve vs (h .1))
 
 module _ (n : ℕ) (vs : List Voice) (old : List Float) where
-  -- a, b, c, d: the four voices, as the code reads them
-  pub four-glides : (a b c d : Voice) → a ∷ b ∷ c ∷ d ∷ [] ≡ vs → (new : List Float) (ws : List Voice) (four : Four) → all single vs ≡ true → n * 4 ≡ length old
-      → FourGlided n 0 (first a) (first b) (first c) (first d) old new four → map seen ws ≡ zipWith withOnly vs (four .a ∷ four .b ∷ four .c ∷ four .d ∷ []) → GlidedVoices n vs ws old new
-  unfolding flatMap
-  four-glides a b c d read new ws four one fit g p =
-      let whole : length new ≤ 0 + n + n + n + n = let s = g .size in omega arith in
-      let copies : (four .a ∷ four .b ∷ four .c ∷ four .d ∷ []) ≡ map (λ (v : Voice). glided n (first v)) vs = rw (g .a-next, g .b-next, g .c-next, g .d-next, ← read) in
-      let joined : take 0 old ++ curve n (first a) ++ curve n (first b) ++ curve n (first c) ++ curve n (first d) ≡ flatMap (λ (v : Voice). curve n (first v)) vs = rw (← read) (simp (append-assoc, append-nil)) in
+  -- a, b, c, d: the four voices, as the code reads them; ds: their copies, glided
+  pub four-glides : (a b c d : Voice) → a ∷ b ∷ c ∷ d ∷ [] ≡ vs → (new : List Float) (ws : List Voice) (ds : List UnisonCopy) → all single vs ≡ true → n * 4 ≡ length old
+      → GlidedCopies n (first a ∷ first b ∷ first c ∷ first d ∷ []) ds new → map seen ws ≡ zipWith withOnly vs ds → GlidedVoices n vs ws old new
+  four-glides a b c d read new ws ds one fit g p =
+      let firsts : first a ∷ first b ∷ first c ∷ first d ∷ [] ≡ map first vs = rw (← read) in
       record {
-        voices = λ _. p ∙ ap (zipWith withOnly vs) copies ∙ singles-glide n vs one;
-        numbers = λ _. sym (take-all (0 + n + n + n + n) new whole) ∙ g .numbers ∙ joined ∙ singles-curve n vs one;
+        voices = λ _. p ∙ ap (zipWith withOnly vs) (g .copies ∙ ap (map (glided n)) firsts ∙ map-map (glided n) first vs) ∙ singles-glide n vs one;
+        numbers = λ _. g .numbers ∙ ap (flatMap (curve n)) firsts ∙ flat-map (curve n) first vs ∙ singles-curve n vs one;
         other = λ no. absurd (no (one, rw (← read) fit));
       }
 

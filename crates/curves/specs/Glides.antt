@@ -1,37 +1,28 @@
 -- What the glide of a voice promises (document 01, "Copies, Plan and Mix": "n pitch numbers per copy by `glide_block`, voice by voice").
 use mathlib.Core.Path.{_≡_}
 use mathlib.Core.Bool.{Bool, true}
-use mathlib.Core.List.{List, _++_, map, flatMap}
+use mathlib.Core.List.{List, [], _∷_, map, flatMap}
 use Prim.Native.Nat.{ℕ, _+_, _*_}
 use lib.Dec.{eqb}
 use lib.Ieee.{Float}
-use lib.ListN.{length, take}
+use lib.ListN.{length, set}
 use Rattle.lists.specs.All.{all}
 use Rattle.stream.specs.declared.UnisonCopy.{UnisonCopy}
-use Rattle.stream.specs.Pitch.{pitched, glided, curve}
-use Rattle.curves.specs.declared.Four.{Four}
+use Rattle.stream.specs.Pitch.{glided, curve}
 use Rattle.model.specs.Voices.{withCopies}
 use Rattle.voice.specs.declared.Voice.{Voice}
 use Rattle.voice.specs.View.{shown, Seen, seen}
 use Rattle.voice.specs.Changes.{onSeen}
 
--- four copies at other pitches
-unfoldable pub pitchedFour : UnisonCopy → UnisonCopy → UnisonCopy → UnisonCopy → Float → Float → Float → Float → Four
-pitchedFour a b c d pa pb pc pd = record {
-  a = pitched a pa (a .«pitch_target») (a .glide);
-  b = pitched b pb (b .«pitch_target») (b .glide);
-  c = pitched c pc (c .«pitch_target») (c .glide);
-  d = pitched d pd (d .«pitch_target») (d .glide);
-}
+-- numbers that are stored n places apart, the first at `at`
+unfoldable pub column : ℕ → ℕ → List Float → List Float → List Float
+column n at [] out = out
+column n at (x ∷ xs) out = column n (at + n) xs (set out at x)
 
--- four copies with their numbers one after the other from `at` on, and what stands before them as it was
-pub record FourGlided (n at : ℕ) (a b c d : UnisonCopy) (old new : List Float) (r : Four) : Type 0 where
-  pub a-next : r .a ≡ glided n a
-  pub b-next : r .b ≡ glided n b
-  pub c-next : r .c ≡ glided n c
-  pub d-next : r .d ≡ glided n d
-  pub size : length new ≡ length old
-  pub numbers : take (at + n + n + n + n) new ≡ take at old ++ curve n a ++ curve n b ++ curve n c ++ curve n d
+-- copies n samples later, and their numbers, one copy after the other
+pub record GlidedCopies (n : ℕ) (cs ds : List UnisonCopy) (new : List Float) : Type 0 where
+  pub copies : ds ≡ map (glided n) cs
+  pub numbers : new ≡ flatMap (curve n) cs
 
 -- true exactly where these copies are the same at every later sample
 pub record StandAs (cs : List UnisonCopy) (r : Bool) : Type 0 where

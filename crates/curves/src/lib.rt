@@ -2,14 +2,14 @@
 
 ghost use mathlib.Core.Path.{_≡_};
 ghost use mathlib.Core.Bool.{true, false, _&&_};
-ghost use mathlib.Core.List.{[], _∷_, map, flatMap, zipWith};
-ghost use Prim.Native.Nat.{_+_, _*_, _≤_, min};
+ghost use mathlib.Core.List.{map, zipWith};
+ghost use Prim.Native.Nat.{_+_, _*_, _≤_, _<_, min};
 ghost use lib.Dec.{eqb};
 ghost use lib.ListN.{length, take, replicate};
 ghost use Rattle.lists.specs.All.{all};
-ghost use Rattle.stream.specs.Pitch.{pitched, glideStep, glided as glidedOf, curve as curveOf, GlidedOver};
+ghost use Rattle.stream.specs.Pitch.{glideStep, stepped, heard as heardOf, GlidedOver};
 ghost use Rattle.voice.specs.View.{shown, seen};
-ghost use Rattle.curves.specs.Glides.{pitchedFour, FourGlided, StandAs, StandsAs, GlidedVoice, WrittenVoice, single, withOnly, GlidedVoices};
+ghost use Rattle.curves.specs.Glides.{column, GlidedCopies, StandAs, StandsAs, GlidedVoice, WrittenVoice, single, withOnly, GlidedVoices};
 use stream::UnisonCopy;
 use voice::Voice;
 
@@ -26,11 +26,27 @@ fn same(a: f32, b: f32) -> bool
     float32::to_bits(a) == float32::to_bits(b)
 }
 
+// A copy one sample later.
+fn step(mut c: UnisonCopy) -> UnisonCopy
+    ensures { λ r. ⌜ r ≡ stepped c ⌝ }
+{
+    c.pitch = c.pitch + (c.pitch_target - c.pitch) * c.glide;
+    c
+}
+
+// The pitch that its oscillators then see.
+fn heard(c: UnisonCopy) -> f32
+    ensures { λ r. ⌜ r ≡ heardOf c ⌝ }
+{
+    c.pitch * c.bend
+}
+
 // Whether the next sample leaves the pitch where it is; so do all later ones.
 fn steady(c: UnisonCopy) -> bool
     ensures { λ r. ⌜ (r ≡ true → glideStep c ≡ c .pitch) × (glideStep c ≡ c .pitch → r ≡ true) ⌝ }
 {
-    same(c.pitch + (c.pitch_target - c.pitch) * c.glide, c.pitch)
+    let next = step(c);
+    same(next.pitch, c.pitch)
 }
 
 // One number in every place.
@@ -49,77 +65,108 @@ fn glide_one(c: UnisonCopy, out: &mut [f32]) -> UnisonCopy
     ensures { λ r. ⌜ GlidedOver c (now (out .entry)) (now (out .exit)) r ⌝ }
 {
     if steady(c) {
-        hold(c.pitch * c.bend, out);
+        hold(heard(c), out);
         return c;
     }
     c.glide_block(out)
 }
 
-// One of four copies that glide side by side.
-type Lane = UnisonCopy;
-
-struct Four {
-    a: Lane,
-    b: Lane,
-    c: Lane,
-    d: Lane,
+fn step_four(cs: [UnisonCopy; 4]) -> [UnisonCopy; 4]
+    ensures { λ r. ⌜ r ≡ map stepped cs ⌝ }
+{
+    [step(cs[0]), step(cs[1]), step(cs[2]), step(cs[3])]
 }
 
-fn at_pitch(mut copy: UnisonCopy, pitch: f32) -> UnisonCopy
-    ensures { λ r. ⌜ r ≡ pitched copy pitch (copy .«pitch_target») (copy .glide) ⌝ }
+// A number of each copy, n places apart.
+fn write_four(cs: [UnisonCopy; 4], n: usize, at: usize, curve: &mut [f32])
+    requires { ⌜ at + n + n + n < length (now curve) ⌝ }
+    ensures { λ _. ⌜ now (curve .exit) ≡ column n at (map heardOf cs) (now (curve .entry)) ⌝ }
 {
-    copy.pitch = pitch;
-    copy
+    let b = at + n;
+    let c = b + n;
+    let d = c + n;
+    curve[at] = heard(cs[0]);
+    curve[b] = heard(cs[1]);
+    curve[c] = heard(cs[2]);
+    curve[d] = heard(cs[3]);
 }
 
-fn at_pitches(a: Lane, b: Lane, c: Lane, d: Lane, pa: f32, pb: f32, pc: f32, pd: f32) -> Four
-    ensures { λ r. ⌜ r ≡ pitchedFour a b c d pa pb pc pd ⌝ }
+// The glides of four copies side by side, n numbers each: in one glide each sum waits for the one before.
+fn glide_four(copies: [UnisonCopy; 4], n: usize, curve: &mut [f32]) -> [UnisonCopy; 4]
+    requires { ⌜ n * 4 ≡ length (now curve) ⌝ }
+    ensures { λ r. ⌜ GlidedCopies n copies r (now (curve .exit)) ⌝ }
 {
-    Four {
-        a: at_pitch(a, pa),
-        b: at_pitch(b, pb),
-        c: at_pitch(c, pc),
-        d: at_pitch(d, pd),
-    }
-}
-
-// The glides of four copies side by side, n numbers each from `at` on: in one glide each sum waits for the one before.
-fn glide_four(a: Lane, b: Lane, c: Lane, d: Lane, n: usize, at: usize, curve: &mut [f32]) -> Four
-    requires { ⌜ at + n + n + n + n ≤ length (now curve) ⌝ }
-    ensures { λ r. ⌜ FourGlided n at a b c d (now (curve .entry)) (now (curve .exit)) r ⌝ }
-{
-    let bt = at + n;
-    let ct = bt + n;
-    let dt = ct + n;
-    let ta = a.pitch_target;
-    let tb = b.pitch_target;
-    let tc = c.pitch_target;
-    let td = d.pitch_target;
-    let ga = a.glide;
-    let gb = b.glide;
-    let gc = c.glide;
-    let gd = d.glide;
-    let ba = a.bend;
-    let bb = b.bend;
-    let bc = c.bend;
-    let bd = d.bend;
-    let mut pa = a.pitch;
-    let mut pb = b.pitch;
-    let mut pc = c.pitch;
-    let mut pd = d.pitch;
+    let mut cs = copies;
     let mut i: usize = 0;
     while i < n {
-        pa = pa + (ta - pa) * ga;
-        pb = pb + (tb - pb) * gb;
-        pc = pc + (tc - pc) * gc;
-        pd = pd + (td - pd) * gd;
-        curve[at + i] = pa * ba;
-        curve[bt + i] = pb * bb;
-        curve[ct + i] = pc * bc;
-        curve[dt + i] = pd * bd;
+        let later = step_four(cs);
+        write_four(later, n, i, curve);
+        cs = later;
         i += 1;
     }
-    at_pitches(a, b, c, d, pa, pb, pc, pd)
+    cs
+}
+
+fn step_eight(cs: [UnisonCopy; 8]) -> [UnisonCopy; 8]
+    ensures { λ r. ⌜ r ≡ map stepped cs ⌝ }
+{
+    [
+        step(cs[0]),
+        step(cs[1]),
+        step(cs[2]),
+        step(cs[3]),
+        step(cs[4]),
+        step(cs[5]),
+        step(cs[6]),
+        step(cs[7]),
+    ]
+}
+
+fn write_eight(cs: [UnisonCopy; 8], n: usize, at: usize, curve: &mut [f32])
+    requires { ⌜ at + n + n + n + n + n + n + n < length (now curve) ⌝ }
+    ensures { λ _. ⌜ now (curve .exit) ≡ column n at (map heardOf cs) (now (curve .entry)) ⌝ }
+{
+    let b = at + n;
+    let c = b + n;
+    let d = c + n;
+    let e = d + n;
+    let f = e + n;
+    let g = f + n;
+    let h = g + n;
+    curve[at] = heard(cs[0]);
+    curve[b] = heard(cs[1]);
+    curve[c] = heard(cs[2]);
+    curve[d] = heard(cs[3]);
+    curve[e] = heard(cs[4]);
+    curve[f] = heard(cs[5]);
+    curve[g] = heard(cs[6]);
+    curve[h] = heard(cs[7]);
+}
+
+// The same of eight: twice as many sums go on at once.
+fn glide_eight(copies: [UnisonCopy; 8], n: usize, curve: &mut [f32]) -> [UnisonCopy; 8]
+    requires { ⌜ n * 8 ≡ length (now curve) ⌝ }
+    ensures { λ r. ⌜ GlidedCopies n copies r (now (curve .exit)) ⌝ }
+{
+    let mut cs = copies;
+    let mut i: usize = 0;
+    while i < n {
+        let later = step_eight(cs);
+        write_eight(later, n, i, curve);
+        cs = later;
+        i += 1;
+    }
+    cs
+}
+
+// Whether eight copies go together: the array is full, and the first of them moves.
+fn abreast(count: usize, c: UnisonCopy) -> bool
+    ensures { λ r. ⌜ (r ≡ true → count ≡ 8) ⌝ }
+{
+    if count != 8 {
+        return false;
+    }
+    !steady(c)
 }
 
 // Whether a copy goes by itself: too few are left, or its pitch stands.
@@ -140,8 +187,11 @@ fn glide_copies(
     curve: &mut [f32],
 ) -> [UnisonCopy; 8]
     requires { ⌜ frames * length (take count copies) ≡ length (now curve) ⌝ }
-    ensures { λ r. ⌜ (take count r ≡ map (glidedOf frames) (take count copies)) × (now (curve .exit) ≡ flatMap (curveOf frames) (take count copies)) ⌝ }
+    ensures { λ r. ⌜ GlidedCopies frames (take count copies) (take count r) (now (curve .exit)) ⌝ }
 {
+    if abreast(count, copies[0]) {
+        return glide_eight(copies, frames, curve);
+    }
     let n = smaller(count, 8);
     let mut cs = copies;
     let mut at: usize = 0;
@@ -153,20 +203,14 @@ fn glide_copies(
             at = end;
             j += 1;
         } else {
-            let ua = copies[j];
-            let ub = copies[j + 1];
-            let uc = copies[j + 2];
-            let ud = copies[j + 3];
-            let four = glide_four(ua, ub, uc, ud, frames, at, curve);
-            let wa = four.a;
-            let wb = four.b;
-            let wc = four.c;
-            let wd = four.d;
-            cs[j] = wa;
-            cs[j + 1] = wb;
-            cs[j + 2] = wc;
-            cs[j + 3] = wd;
-            at = at + frames + frames + frames + frames;
+            let end = at + frames * 4;
+            let four = [copies[j], copies[j + 1], copies[j + 2], copies[j + 3]];
+            let next = glide_four(four, frames, &mut curve[at..end]);
+            cs[j] = next[0];
+            cs[j + 1] = next[1];
+            cs[j + 2] = next[2];
+            cs[j + 3] = next[3];
+            at = end;
             j += 4;
         }
     }
@@ -206,6 +250,10 @@ fn copies_stand(copies: [UnisonCopy; 8], count: usize) -> bool
 pub fn stands(v: Voice) -> bool
     ensures { λ r. ⌜ StandsAs v r ⌝ }
 {
+    // Most voices have one copy: no pass over the array.
+    if v.copy_count == 1 {
+        return steady(v.copies[0]);
+    }
     let copies = v.copies;
     copies_stand(copies, v.copy_count)
 }
@@ -214,6 +262,12 @@ pub fn stands(v: Voice) -> bool
 pub fn write_voice(v: Voice, frames: usize, curve: &mut [f32])
     ensures { λ _. ⌜ WrittenVoice frames v (now (curve .entry)) (now (curve .exit)) ⌝ }
 {
+    if v.copy_count == 1 {
+        if curve.len() == frames {
+            glide_one(v.copies[0], curve);
+        }
+        return;
+    }
     if voices::fills(frames, v.copies_shown(), curve.len()) {
         let copies = v.copies;
         glide_copies(copies, v.copy_count, frames, curve);
@@ -245,19 +299,15 @@ fn with_copy(mut v: Voice, copy: UnisonCopy) -> Voice
 }
 
 // Four voices of one copy each, with others in their places.
-fn with_copies(vs: [Voice; 4], four: Four) -> [Voice; 4]
+fn with_copies(vs: [Voice; 4], four: [UnisonCopy; 4]) -> [Voice; 4]
     requires { ⌜ all single vs ≡ true ⌝ }
-    ensures { λ r. ⌜ map seen r ≡ zipWith withOnly vs (four .a ∷ four .b ∷ four .c ∷ four .d ∷ []) ⌝ }
+    ensures { λ r. ⌜ map seen r ≡ zipWith withOnly vs four ⌝ }
 {
-    let ua = four.a;
-    let ub = four.b;
-    let uc = four.c;
-    let ud = four.d;
     [
-        with_copy(vs[0], ua),
-        with_copy(vs[1], ub),
-        with_copy(vs[2], uc),
-        with_copy(vs[3], ud),
+        with_copy(vs[0], four[0]),
+        with_copy(vs[1], four[1]),
+        with_copy(vs[2], four[2]),
+        with_copy(vs[3], four[3]),
     ]
 }
 
@@ -281,14 +331,6 @@ pub fn glide_voices(vs: [Voice; 4], frames: usize, curve: &mut [f32]) -> [Voice;
     if !voices::fills(frames, 4, curve.len()) {
         return vs;
     }
-    let four = glide_four(
-        a.copies[0],
-        b.copies[0],
-        c.copies[0],
-        d.copies[0],
-        frames,
-        0,
-        curve,
-    );
-    with_copies(vs, four)
+    let four = [a.copies[0], b.copies[0], c.copies[0], d.copies[0]];
+    with_copies(vs, glide_four(four, frames, curve))
 }

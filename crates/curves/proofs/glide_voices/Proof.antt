@@ -1,6 +1,5 @@
 use mathlib.Core.Path.{_≡_, refl, sym, _∙_}
 use mathlib.Core.Bool.{true}
-use native.Mathlib.Omega.{arith}
 use borrow.Author.Needs.{needs}
 use borrow.Author.Tests.{not-true, not-false}
 use Prim.Native.Nat.{_*_}
@@ -73,20 +72,20 @@ fills-requires c κs = search needs
 returns-2 : tie.Need-returns-2
 returns-2 c = four-kept _ _ _ (λ f. misfits _ _ 4 4 _ (c .before .fills .ensures) refl (not-true _ (c .if2 .taken)) (rw (four-long (c .before .before .before .before .before .before .before .before .before .before .before .before .before)) at (f .1)))
 
-element-copy-out-glide-four : tie.Need-element-copy-out-glide-four
-element-copy-out-glide-four c = search needs
+element-copy-out-t30 : tie.Need-element-copy-out-t30
+element-copy-out-t30 c = search needs
 
-element-copy-out-glide-four-2 : tie.Need-element-copy-out-glide-four-2
-element-copy-out-glide-four-2 c = search needs
+element-copy-out-t33 : tie.Need-element-copy-out-t33
+element-copy-out-t33 c = search needs
 
-element-copy-out-glide-four-3 : tie.Need-element-copy-out-glide-four-3
-element-copy-out-glide-four-3 c = search needs
+element-copy-out-t36 : tie.Need-element-copy-out-t36
+element-copy-out-t36 c = search needs
 
-element-copy-out-glide-four-4 : tie.Need-element-copy-out-glide-four-4
-element-copy-out-glide-four-4 c = search needs
+element-copy-out-t39 : tie.Need-element-copy-out-t39
+element-copy-out-t39 c = search needs
 
 glide-four-requires : tie.Need-glide-four-requires
-glide-four-requires c κs = let f = fitting (c .before .before .before .before .before) in omega (arith, f)
+glide-four-requires c κs = fitting (c .before .before .before .before .before)
 
 with-copies-requires : tie.Need-with-copies-requires
 with-copies-requires c κs = one-each (c .before .before .before .before .before .before .before .before .before .before)
@@ -117,10 +116,10 @@ glide-voices-spec =
     returns
     fills-requires
     returns-2
-    element-copy-out-glide-four
-    element-copy-out-glide-four-2
-    element-copy-out-glide-four-3
-    element-copy-out-glide-four-4
+    element-copy-out-t30
+    element-copy-out-t33
+    element-copy-out-t36
+    element-copy-out-t39
     glide-four-requires
     with-copies-requires
     same-length
