@@ -19,10 +19,20 @@ module _ (d : InstrumentDesign) (e : isAccepted d ≡ true) where
   unfolding numbersFit
   rate-fits = both (rateFits (d .«sample_rate»)) _ numbers .0
 
-  pub copies-most : copiesOf d ≤ 8
-  unfolding numbersFit copiesOf
-  copies-most =
+  voices-fit : (1 ≤ d .«max_voices») × (d .«max_voices» ≤ 32) × (d .unison ≤ 8)
+  unfolding numbersFit
+  voices-fit =
       let a = both (rateFits (d .«sample_rate»)) _ numbers in
       let b = both (leb 1 (d .«max_voices»)) _ (a .1) in
-      let u = leb-true (d .unison) 8 (both (leb (d .«max_voices») 32) (leb (d .unison) 8) (b .1) .1) in
-      chosen (λ (k : ℕ). k ≤ 8) (eqb (d .unison) 0) 1 (d .unison) (λ _. omega arith) (λ _. u)
+      let c = both (leb (d .«max_voices») 32) (leb (d .unison) 8) (b .1) in
+      (leb-true 1 _ (b .0), leb-true _ 32 (c .0), leb-true _ 8 (c .1))
+
+  pub voices-some : 1 ≤ d .«max_voices»
+  voices-some = voices-fit .0
+
+  pub voices-most : d .«max_voices» ≤ 32
+  voices-most = voices-fit .1
+
+  pub copies-most : copiesOf d ≤ 8
+  unfolding copiesOf
+  copies-most = chosen (λ (k : ℕ). k ≤ 8) (eqb (d .unison) 0) 1 (d .unison) (λ _. omega arith) (λ _. voices-fit .2)

@@ -9,7 +9,7 @@ use lib.Ieee.{Float}
 use Rattle.float32.specs.Numbers.{maxOf}
 use Rattle.stream.specs.declared.UnisonCopy.{UnisonCopy}
 use Rattle.stream.specs.Pitch.{bent, cutTo, leastCutoff}
-use lib.ListN.{length, getD, set, length-map, length-take}
+use lib.ListN.{length, getD, set}
 use Rattle.lists.specs.Choose.{clash, cond-true, cond-false}
 use Rattle.lists.specs.Places.{findAt}
 use Rattle.model.specs.Types as M
@@ -27,7 +27,7 @@ use Rattle.instrument.specs.declared.Outcome.{Outcome}
 use Rattle.instrument.specs.declared.Reply.the-variants.{Done, Released}
 use Rattle.instrument.proofs.States.{tabledAs, tunedAs}
 use Rattle.instrument.proofs.Calls.{Free, counts, plain-call, gives-same, gives-placed}
-use Rattle.instrument.proofs.Formed.{tableOf}
+use Rattle.instrument.proofs.Formed.{tableOf, voices-count}
 
 -- every voice changed
 module _ (s : Instrument) (g : M.Voice → M.Voice) (ws : List Voice) (e : seenFirst (s .«voice_count») ws ≡ map (onSeen g) (tableOf s)) where
@@ -74,7 +74,7 @@ module _ (s : Instrument) (f : Free s) where
   changed-voices g k ws e = ap voicesOf e ∙ changed-seen g k (tableOf s)
 
   pub table-long : (lv : length (s .voices) ≡ 64) → length (voicesOf (tableOf s)) ≡ s .«voice_count»
-  table-long lv = let k = counts s (f .counted) .voices64 in simp (length-map, length-take) (omega arith)
+  table-long lv = let k = counts s (f .counted) .voices64 in voices-count s (omega arith)
 
   module _ (lv : length (s .voices) ≡ 64) (h k : ℕ) (e : k ≡ findAt (hasHandle h) (voicesOf (tableOf s))) where
     place-is : placeOf h (voicesOf (tableOf s)) ≡ k

@@ -4,7 +4,7 @@ use mathlib.Core.List.{List, [], _∷_, _++_}
 use mathlib.Core.Bool.{true, false}
 use Prim.Native.Nat.{ℕ, _+_, _-_, _≤_, _<_}
 use native.Mathlib.Omega.{arith}
-use lib.ListN.{length, getD, set, length-set, length-map, length-take}
+use lib.ListN.{length, getD, set, length-set}
 use Rattle.lists.specs.Count.{oneIf}
 use Rattle.lists.specs.Lone.{set-past}
 use Rattle.lists.specs.Pass.{Moved, moved-end}
@@ -17,7 +17,7 @@ use Rattle.voices.specs.View.{seenFirst}
 use Rattle.instrument.specs.Calls.{placedAs, editedBy, heldBy}
 use Rattle.instrument.specs.declared.Instrument.{Instrument}
 use Rattle.instrument.specs.declared.NoteOn.{NoteOn}
-use Rattle.instrument.proofs.Formed.{tableOf}
+use Rattle.instrument.proofs.Formed.{tableOf, seen-long}
 use Rattle.instrument.proofs.States.{tabledAs}
 use Rattle.instrument.proofs.Walks.{one-changed}
 
@@ -36,7 +36,7 @@ module _ (x : Instrument) (o : NoteOn) where
   pub change-none : (u : Instrument) → x .«voice_count» ≤ length (x .voices) → x .«voice_count» ≤ o .place → u ≡ x → Changed x o u
   unfolding placedAs
   change-none u l h q =
-      let long : length (tableOf x) ≡ x .«voice_count» = simp (length-map, length-take) (omega arith) in
+      let long = seen-long x l in
       rw q (record { rest = refl; size = refl; table = sym (set-past (tableOf x) (o .place) _ (omega arith)) })
 
   module _ (u : Instrument) (c : Changed x o u) (l : x .«voice_count» ≤ length (x .voices)) where

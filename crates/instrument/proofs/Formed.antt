@@ -18,7 +18,7 @@ use Rattle.design.specs.Accepted.{isAccepted, copiesOf}
 use Rattle.model.specs.Types as M
 use Rattle.model.specs.Voices.{sounding, handles}
 use Rattle.model.specs.Formed.{handleFits, copiesFit, stageFits, blockFits, modeFits, wellFormed}
-use Rattle.voice.specs.View.{Seen}
+use Rattle.voice.specs.View.{Seen, seen}
 use Rattle.voices.specs.View.{seenFirst, voicesOf, inRoom}
 use Rattle.voice.specs.declared.Voice.{Voice}
 use Rattle.instrument.specs.declared.Instrument.{Instrument}
@@ -28,6 +28,14 @@ use Rattle.formed.specs.Check.{voiceFits, modeAgrees, tablesFit}
 
 abbrev pub tableOf : Instrument → List Seen
 tableOf s = seenFirst (s .«voice_count») (s .voices)
+
+-- a table has as many voices as the state counts
+module _ (s : Instrument) (h : s .«voice_count» ≤ length (s .voices)) where
+  pub seen-long : length (tableOf s) ≡ s .«voice_count»
+  seen-long = shown-length seen (s .«voice_count») (s .voices) h
+
+  pub voices-count : length (voicesOf (tableOf s)) ≡ s .«voice_count»
+  voices-count = simp (length-map, length-take) (omega arith)
 
 abbrev pub soundingIn : Instrument → ℕ
 soundingIn s = count sounding (voicesOf (tableOf s))
@@ -63,9 +71,6 @@ module _ (next copies : ℕ) (l : List Seen) where
       ∙ rw (all-map (handleFits next) (λ (x : Seen). x .voice) l, all-map (copiesFit copies) (λ (x : Seen). x .voice) l, all-map stageFits (λ (x : Seen). x .voice) l))
 
 module _ (s : Instrument) (lv : length (s .voices) ≡ 64) (lh : length (s .held) ≡ 256) where
-  voices-shown : s .«voice_count» ≤ 64 → length (voicesOf (tableOf s)) ≡ s .«voice_count»
-  voices-shown h = simp (length-map, length-take) (omega arith)
-
   held-shown : s .«held_count» ≤ 256 → length (heldFirst (s .«held_count») (s .held)) ≡ s .«held_count»
   held-shown h = shown-length numberOfNote (s .«held_count») (s .held) (omega arith)
 
@@ -98,7 +103,7 @@ module _ (s : Instrument) (lv : length (s .voices) ≡ 64) (lh : length (s .held
       let n = both (all stageFits vs) _ (m .1) in
       let o = both (distinct (heldFirst (s .«held_count») (s .held))) (modeFits (s .design .mode) (view s)) (n .1) in
       let q : length vs ≤ 2 * s .design .«max_voices» = leb-true _ _ (g .0) in
-      let v = voices-shown n64 in
+      let v = voices-count s (omega arith) in
       record {
         voices64 = n64;
         held256 = n256;
@@ -116,7 +121,8 @@ module _ (s : Instrument) (lv : length (s .voices) ≡ 64) (lh : length (s .held
   pub formed-of : Parts s → formed s ≡ true
   unfolding formed counted wellFormed view
   formed-of p =
-      let v = voices-shown (p .voices64) in
+      let n64 = p .voices64 in
+      let v = voices-count s (omega arith) in
       let vs = voicesOf (tableOf s) in
       let f = sym (four (s .«next_handle») (copiesOf (s .design)) (tableOf s)) ∙ p .fits in
       let a = both (inRoom (tableOf s)) _ f in

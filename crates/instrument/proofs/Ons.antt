@@ -8,16 +8,14 @@ use native.Mathlib.Numerals.{add-one}
 use borrow.Author.Tests.{le-ltb, lt-ltb, ltb-true, ltb-false, le-leb, leb-true, leb-false, eq-eqb, ne-eqb, not-true}
 use lib.Dec.{leb, ltb, eqb}
 use lib.Ieee.{Float, isNan, eq}
-use lib.ListN.{length, getD, set, length-set, length-map, length-take}
+use lib.ListN.{length, getD, set, length-set}
 use Rattle.float32.specs.Numbers.{zero as +0, one, clampOf}
 use Rattle.lists.specs.Choose.{both, clash, cond-true, cond-false}
 use Rattle.lists.specs.Lone.{set-past}
 use Rattle.lists.specs.Places.{without, without-length, without-past, map-without}
-use Rattle.design.specs.declared.InstrumentDesign.{InstrumentDesign}
 use Rattle.design.specs.declared.PlayMode.{PlayMode}
 use Rattle.design.specs.declared.PlayMode.the-variants.{Poly, Mono}
-use Rattle.design.specs.Accepted.{numbersFit, floatsFit, isAccepted, copiesOf}
-use Rattle.envelope.specs.Start.{rateFits}
+use Rattle.design.proofs.Limits.{voices-some, voices-most, copies-most}
 use Rattle.model.specs.Types as M
 use Rattle.model.specs.Changes.{placed}
 use Rattle.model.specs.Voices.{newVoice, killedVoice, sounding, changed, isPlace, firstSounding}
@@ -26,7 +24,7 @@ use Rattle.model.specs.Step.{handlesSpent}
 use Rattle.voice.specs.View.{Seen, seen}
 use Rattle.voices.specs.View.{seenFirst, voicesOf, inRoom}
 use Rattle.voice.specs.Changes.{onSeen, noSeen}
-use Rattle.voice.specs.declared.VoiceChange.the-variants.{Keep}
+use Rattle.voice.specs.declared.VoiceChange.the-variants.{Keep, Kill}
 use Rattle.voices.proofs.Changes.{changed-seen, room-set, room-without}
 use Rattle.voices.specs.Steal.{FoundFirst, takenAt, StolenFrom}
 use Rattle.voices.proofs.Stealing.{taken-le, taken-inside, room-made, killed-is, taken-is}
@@ -34,7 +32,7 @@ use Rattle.voices.specs.declared.Found.{Found}
 use Rattle.voices.specs.declared.steal.Stolen.{Stolen}
 use Rattle.formed.specs.Held.{heldFirst}
 use Rattle.instrument.specs.View.{view, formed}
-use Rattle.instrument.specs.Calls.{CallAs, Gives, answeredAs, refusedAs, placedAs, lastHandle, HeldOn, keptOn, stayOn, spawnOn, editedBy, OnAs}
+use Rattle.instrument.specs.Calls.{CallAs, Gives, answeredAs, refusedAs, placedAs, lastHandle, HeldOn, stayOn, spawnOn, editedBy, OnAs}
 use Rattle.formed.specs.Held.{WithNote}
 use Rattle.instrument.specs.declared.Instrument.{Instrument}
 use Rattle.formed.specs.declared.Held.{Held}
@@ -42,28 +40,8 @@ use Rattle.instrument.specs.declared.Outcome.{Outcome}
 use Rattle.instrument.specs.declared.NoteOn.{NoteOn}
 use Rattle.instrument.specs.declared.Reply.the-variants.{Silent, Kept, Refused}
 use Rattle.instrument.proofs.Calls.{Free, counts, plain-call, gives-placed, refused-call, accepted-call, unrefused, spent}
-use Rattle.instrument.proofs.Controls.{changed-room, changed-voices, table-long}
-use Rattle.instrument.proofs.Formed.{tableOf, Parts, parts-of}
-
--- the limits of an accepted design
-pub record Limits (d : InstrumentDesign) : Type 0 where
-  pub some : 1 ≤ d .«max_voices»
-  pub most : d .«max_voices» ≤ 32
-  pub copies : copiesOf d ≤ 8
-
-pub limits : (d : InstrumentDesign) → isAccepted d ≡ true → Limits d
-unfolding isAccepted numbersFit copiesOf
-limits d e =
-    let a = both (numbersFit d) (floatsFit d) e in
-    let b = both (rateFits (d .«sample_rate»)) _ (a .0) in
-    let c = both (leb 1 (d .«max_voices»)) _ (b .1) in
-    let g = both (leb (d .«max_voices») 32) (leb (d .unison) 8) (c .1) in
-    let u : d .unison ≤ 8 = leb-true _ 8 (g .1) in
-    record { some = leb-true 1 _ (c .0); most = leb-true _ 32 (g .0); copies = by (eqb (d .unison) 0) u }
-  where
-    by : (b : Bool) → d .unison ≤ 8 → cond b 1 (d .unison) ≤ 8
-    by true u = omega arith
-    by false u = u
+use Rattle.instrument.proofs.Controls.{changed-room, changed-voices}
+use Rattle.instrument.proofs.Formed.{tableOf, seen-long, voices-count, Parts, parts-of}
 
 room-more : (l : List Seen) (x : Seen) → inRoom l ≡ true → x .count ≤ 8 → inRoom (l ++ (x ∷ [])) ≡ true
 room-more [] x e h = rw (le-leb (x .count) 8 h)
@@ -73,11 +51,11 @@ module _ (s : Instrument) (f : Free s) (lv : length (s .voices) ≡ 64) (lh : le
   parts : Parts s
   parts = parts-of s lv lh (f .formed)
 
-  seen-long : length (tableOf s) ≡ s .«voice_count»
-  seen-long = let h = parts .voices64 in simp (length-map, length-take) (omega arith)
+  long : s .«voice_count» ≤ length (s .voices)
+  long = let h = parts .voices64 in omega arith
 
   set-long : (k : ℕ) (x : Seen) → length (set (tableOf s) k x) ≡ s .«voice_count»
-  set-long k x = length-set (tableOf s) k x ∙ seen-long
+  set-long k x = length-set (tableOf s) k x ∙ seen-long s long
 
   -- no voice is taken out
   none-taken : (k : ℕ) (x : Seen) → without (s .«voice_count») (set (tableOf s) k x) ≡ set (tableOf s) k x
@@ -87,7 +65,7 @@ module _ (s : Instrument) (f : Free s) (lv : length (s .voices) ≡ 64) (lh : le
   none-size k x = let l = set-long k x in rw (none-taken k x) (omega arith)
 
   none-changed : (x : Seen) → without (s .«voice_count») (set (tableOf s) (s .«voice_count») x) ≡ tableOf s
-  none-changed x = let l = seen-long in none-taken (s .«voice_count») x ∙ set-past (tableOf s) (s .«voice_count») x (omega arith)
+  none-changed x = let l = seen-long s long in none-taken (s .«voice_count») x ∙ set-past (tableOf s) (s .«voice_count») x (omega arith)
 
   -- a handle is due
   module _ (note : ℕ) (velocity : Float) (built : Bool) (held : Held) (heldOn : HeldOn (s .design .mode) (s .held) (s .«held_count») note held) (due : newHandleIn (s .design .mode) (view s) ≡ true) where
@@ -118,7 +96,7 @@ module _ (s : Instrument) (f : Free s) (lv : length (s .voices) ≡ 64) (lh : le
     unspent z = sym (rw (due, ne-eqb (s .«next_handle») lastHandle z))
 
     -- refusal 8
-    pub on-spent : s .«next_handle» ≡ lastHandle → OnAs s note velocity built (stayOn (Refused 8) true (s .«voice_count») (s .«next_handle») held)
+    pub on-spent : s .«next_handle» ≡ lastHandle → OnAs s note velocity built (stayOn (Refused 8) true (s .«voice_count») Kill (s .«voice_count») (s .«next_handle») held)
     on-spent z = record {
       spent = sym (rw (due, eq-eqb (s .«next_handle») lastHandle z));
       within = omega arith;
@@ -129,7 +107,7 @@ module _ (s : Instrument) (f : Free s) (lv : length (s .voices) ≡ 64) (lh : le
     }
 
     -- a handle and no voice
-    pub on-silent : (s .«next_handle» ≡ lastHandle → ⊥) → built ≡ false → OnAs s note velocity built (stayOn (Silent (s .«next_handle»)) false (s .«voice_count») (s .«next_handle» + 1) held)
+    pub on-silent : (s .«next_handle» ≡ lastHandle → ⊥) → built ≡ false → OnAs s note velocity built (stayOn (Silent (s .«next_handle»)) false (s .«voice_count») Kill (s .«voice_count») (s .«next_handle» + 1) held)
     unfolding newNote silentNote view
     on-silent z b = record {
       spent = unspent z;
@@ -171,7 +149,7 @@ module _ (s : Instrument) (f : Free s) (lv : length (s .voices) ≡ 64) (lh : le
 
       taken-most : stolen .taken ≤ s .«voice_count»
       taken-most =
-          let l = table-long s f lv in
+          let l = voices-count s long in
           let e = t .taken in
           let h = taken-le (s .design .«max_voices») (voicesOf (tableOf s)) in
           omega (arith, l, e, h)
@@ -199,15 +177,14 @@ module _ (s : Instrument) (f : Free s) (lv : length (s .voices) ≡ 64) (lh : le
           by true e c g = rw e (parts .voices64)
           by false e true g =
               let h : s .«voice_count» ≤ stolen .taken = ltb-false _ _ e in
-              let l = table-long s f lv in
-              let k = limits (s .design) (parts .design) in
+              let l = voices-count s long in
               let m : 2 * s .design .«max_voices» ≤ s .«voice_count» = leb-true _ _ g in
-              let i = taken-inside (s .design .«max_voices») (voicesOf (tableOf s)) (k .some) (omega (arith, l, m)) in
+              let i = taken-inside (s .design .«max_voices») (voicesOf (tableOf s)) (voices-some (s .design) (parts .design)) (omega (arith, l, m)) in
               let q = t .taken in
               let z : ⊥ = omega (arith, h, i, q, l) in
               absurd z
           by false e false g =
-              let k = limits (s .design) (parts .design) .most in
+              let k = voices-most (s .design) (parts .design) in
               let m : s .«voice_count» < 2 * s .design .«max_voices» = leb-false _ _ g in
               rw e (omega (arith, k, m))
 
@@ -220,7 +197,7 @@ module _ (s : Instrument) (f : Free s) (lv : length (s .voices) ≡ 64) (lh : le
         room = fits;
         same = λ _ x. absurd (clash true refl x);
         more = λ _ _ v ws n e.
-            let c : seen v .count ≤ 8 = let l = limits (s .design) (parts .design) .copies in rw n l in
+            let c : seen v .count ≤ 8 = rw n (copies-most (s .design) (parts .design)) in
             let vs : voicesOf (seenFirst after ws) ≡ afterTaking (view s) ++ (newVoice (view s) note velocity ∷ []) =
             ap voicesOf e ∙ map-append (λ (x : Seen). x .voice) edited (seen v ∷ []) ∙ ap (λ (l : List M.Voice). l ++ (seen v .voice ∷ [])) edited-voices
             ∙ ap (λ (x : Seen). afterTaking (view s) ++ (x .voice ∷ [])) n in
@@ -243,17 +220,17 @@ module _ (s : Instrument) (f : Free s) (lv : length (s .voices) ≡ 64) (lh : le
 
     goes-not : s .«voice_count» ≤ found .place → goesOn (view s) ≡ false
     unfolding goesOn isPlace view
-    goes-not h = let l = table-long s f lv in rw first-is (le-ltb (found .place) (length (voicesOf (tableOf s))) (omega arith))
+    goes-not h = let l = voices-count s long in rw first-is (le-ltb (found .place) (length (voicesOf (tableOf s))) (omega arith))
 
     pub due-mono : s .«voice_count» ≤ found .place → newHandleIn (s .design .mode) (view s) ≡ true
     due-mono h = ap (λ (p : PlayMode). newHandleIn p (view s)) mono ∙ ap not (goes-not h)
 
     goes : found .place < s .«voice_count» → goesOn (view s) ≡ true
     unfolding goesOn isPlace view
-    goes h = let l = table-long s f lv in rw first-is (lt-ltb (found .place) (length (voicesOf (tableOf s))) (omega arith))
+    goes h = let l = voices-count s long in rw first-is (lt-ltb (found .place) (length (voicesOf (tableOf s))) (omega arith))
 
     pub on-kept : (note : ℕ) (velocity : Float) (built : Bool) (held : Held) → found .place < s .«voice_count» → WithNote (s .held) (s .«held_count») note held
-        → OnAs s note velocity built (keptOn found (Keep note (s .design .glide) legato velocity) (s .«voice_count») (s .«next_handle») held)
+        → OnAs s note velocity built (stayOn (Kept (found .handle)) false (found .place) (Keep note (s .design .glide) legato velocity) (s .«voice_count») (s .«next_handle») held)
     unfolding monoOn keptNote view firstSounding
     on-kept note velocity built held h w = record {
       spent = sym (ap (λ (b : Bool). b && eqb (s .«next_handle») lastHandle) (ap (λ (p : PlayMode). newHandleIn p (view s)) mono ∙ ap not (goes h)));

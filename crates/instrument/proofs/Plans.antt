@@ -9,7 +9,7 @@ use borrow.Author.Tests.{leb-true, le-leb, eq-eqb, ne-eqb, eqb-true, not-false}
 use lib.Dec.{T, leb, le→leb}
 use lib.Ieee.{Float, binary32, mul, lt, inFloat}
 use lib.IntN.{pos}
-use lib.ListN.{length, length-map, length-take}
+use lib.ListN.{length, length-map}
 use Rattle.lists.specs.Choose.{both, chosen, cond-true, cond-false}
 use Rattle.lists.specs.All.{all}
 use Rattle.lists.specs.Count.{count}
@@ -43,7 +43,7 @@ use Rattle.instrument.specs.declared.Instrument.{Instrument}
 use Rattle.instrument.specs.declared.Outcome.{Outcome}
 use Rattle.instrument.specs.declared.Reply.the-variants.{Planned}
 use Rattle.instrument.proofs.States.{movedAs, blockedAs}
-use Rattle.instrument.proofs.Formed.{tableOf, parts-of}
+use Rattle.instrument.proofs.Formed.{tableOf, seen-long, parts-of}
 use Rattle.instrument.proofs.Calls.{Free, bars, unrefused, counts, counted-of, refusal-in, refused-call, accepted-call}
 use Rattle.instrument.proofs.Controls.{mapped-room, mapped-voices}
 
@@ -111,7 +111,7 @@ module _ (s : Instrument) (lv : length (s .voices) ≡ 64) (lh : length (s .held
       let p = parts-of s lv lh f in
       let n64 : s .«voice_count» ≤ 64 = p .voices64 in
       let k8 : k ≤ 8 = rw e (copies-most (s .design) (p .design)) in
-      let l : length (tableOf s) ≡ s .«voice_count» = simp (length-map, length-take) (omega arith) in
+      let l = seen-long s (omega arith) in
       record {
         all = copies-even _ _ (fits-copies _ _) (tableOf s) (p .fits) ∙ rw (l, e);
         most = mul-le-mul n64 k8;

@@ -4,7 +4,7 @@ use mathlib.Core.Bool.{Bool, true, false}
 use Prim.Native.Nat.{ℕ, _≤_, _<_}
 use native.Mathlib.Omega.{arith}
 use lib.Dec.{ltb}
-use lib.ListN.{length, length-map, length-take}
+use lib.ListN.{length}
 use Rattle.lists.specs.Choose.{both}
 use Rattle.lists.specs.Places.{findAt}
 use Rattle.lists.specs.Found.{find-passes, find-missed}
@@ -20,7 +20,7 @@ use Rattle.instrument.specs.declared.Instrument.{Instrument}
 use Rattle.instrument.specs.declared.Answer.{Answer}
 use Rattle.instrument.specs.declared.Answer.the-variants.{Handle, NoHandle, Refused}
 use Rattle.instrument.proofs.Calls.{counts}
-use Rattle.instrument.proofs.Formed.{tableOf}
+use Rattle.instrument.proofs.Formed.{tableOf, voices-count}
 
 -- a state that is not well formed, on its counts or on what it stands for
 module _ (s : Instrument) (e : formed s ≡ false) where
@@ -51,28 +51,28 @@ module _ (s : Instrument) (e : formed s ≡ true) (lv : length (s .voices) ≡ 6
   unfolding formed
   fine = both (counted s) (wellFormed (view s)) e
 
-  table-size : length (voicesOf (tableOf s)) ≡ s .«voice_count»
-  table-size = let k = counts s (fine .0) .voices64 in simp (length-map, length-take) (omega arith)
+  long : s .«voice_count» ≤ length (s .voices)
+  long = let k = counts s (fine .0) .voices64 in omega arith
 
   pub active-found : (h k : ℕ) → k ≡ findAt (hasHandle h) (voicesOf (tableOf s)) → Q.Answer.active (ltb k (s .«voice_count»)) ≡ askedOf s (isActive (view s) h)
   unfolding askedOf isActive isPlace placeOf view
-  active-found h k q = rw (fine .0, fine .1, table-size, q)
+  active-found h k q = rw (fine .0, fine .1, voices-count s long, q)
 
   pub voices-found : Q.Answer.voices (s .«voice_count») ≡ askedOf s (activeVoices (view s))
   unfolding askedOf activeVoices view
-  voices-found = rw (fine .0, fine .1, table-size)
+  voices-found = rw (fine .0, fine .1, voices-count s long)
 
   module _ (n k : ℕ) (q : k ≡ findAt (soundsNote n) (voicesOf (tableOf s))) where
     pub voice-none : s .«voice_count» ≤ k → VoiceAs s n NoHandle
     unfolding VoiceOf view
     voice-none h =
-        let l = table-size in
+        let l = voices-count s long in
         record { inRoom = λ _. (fine .1, find-missed (soundsNote n) (voicesOf (tableOf s)) (omega arith)); beyond = λ x. absurd (x (fine .0)) }
 
     pub voice-some : (a : ℕ) → a ≡ handleAt (findAt (soundsNote n) (voicesOf (tableOf s))) (voicesOf (tableOf s)) → k < s .«voice_count» → VoiceAs s n (Handle a)
     unfolding VoiceOf view
     voice-some a e h =
-        let l = table-size in
+        let l = voices-count s long in
         record {
           inRoom = λ _. (
             fine .1,

@@ -5,7 +5,7 @@ use mathlib.Core.List.{map}
 use Prim.Native.Nat.{ℕ, _+_, _<_, _≤_}
 use native.Mathlib.Omega.{arith}
 use borrow.Author.Tests.{eq-eqb, ne-eqb}
-use lib.ListN.{length, take, drop, getD, set, length-map, length-take}
+use lib.ListN.{length, take, drop, getD, set, length-take}
 use Rattle.lists.specs.Prefix.{shown-set}
 use lib.Seq.{getD-take}
 use Rattle.lists.specs.Count.{count}
@@ -24,7 +24,7 @@ use Rattle.voices.proofs.Table.{seen-at, table-at}
 use Rattle.instrument.specs.Calls.{placedAs}
 use Rattle.instrument.specs.declared.Instrument.{Instrument}
 use Rattle.instrument.proofs.States.{tabledAs}
-use Rattle.instrument.proofs.Formed.{tableOf}
+use Rattle.instrument.proofs.Formed.{tableOf, voices-count}
 
 pub record Walked (g : M.Voice → M.Voice) (s t : Instrument) (i : ℕ) : Type 0 where
   pub rest : t ≡ tabledAs s (t .voices)
@@ -81,21 +81,18 @@ one-changed g s i v h e =
 
 -- looking for the first voice that passes, from the front
 module _ (s : Instrument) (lv : length (s .voices) ≡ 64) (h64 : s .«voice_count» ≤ 64) (p : M.Voice → Bool) (i : ℕ) (e : findAt p (voicesOf (tableOf s)) ≡ i + findAt p (drop i (voicesOf (tableOf s)))) where
-  size : length (voicesOf (tableOf s)) ≡ s .«voice_count»
-  size = simp (length-map, length-take) (omega arith)
-
   here : i < s .«voice_count» → getD (voicesOf (tableOf s)) i M.noVoice ≡ shown (getD (s .voices) i pastEnd)
   here h = table-at (s .«voice_count») (s .voices) i h
 
   pub found-here : i < s .«voice_count» → p (shown (getD (s .voices) i pastEnd)) ≡ true → i ≡ findAt p (voicesOf (tableOf s))
   found-here h t =
-      let l = size in
+      let l = voices-count s (omega arith) in
       let z = find-found p (voicesOf (tableOf s)) i M.noVoice (omega arith) (ap p (here h) ∙ t) in
       omega (arith, z)
 
   pub found-later : i < s .«voice_count» → p (shown (getD (s .voices) i pastEnd)) ≡ false → findAt p (voicesOf (tableOf s)) ≡ i + 1 + findAt p (drop (i + 1) (voicesOf (tableOf s)))
   found-later h t =
-      let l = size in
+      let l = voices-count s (omega arith) in
       let z = find-next p (voicesOf (tableOf s)) i M.noVoice (omega arith) (ap p (here h) ∙ t) in
       omega (arith, z)
 
@@ -109,7 +106,7 @@ module _ (s : Instrument) (lv : length (s .voices) ≡ 64) (h64 : s .«voice_cou
 
   pub last-before : p (shown (getD (s .voices) k pastEnd)) ≡ false → count p (drop (k + 1) (take reach (voicesOf (tableOf s)))) ≡ 0 → count p (drop k (take reach (voicesOf (tableOf s)))) ≡ 0
   last-before t z =
-      let l : length (voicesOf (tableOf s)) ≡ s .«voice_count» = simp (length-map, length-take) (omega arith) in
+      let l = voices-count s (omega arith) in
       let at : k < length (take reach (voicesOf (tableOf s))) = simp length-take (omega arith) in
       let here : p (getD (take reach (voicesOf (tableOf s))) k M.noVoice) ≡ false = ap p (getD-take reach (voicesOf (tableOf s)) k M.noVoice hk) ∙ last-here false t in
       count-left p (take reach (voicesOf (tableOf s))) k M.noVoice at ∙ rw (here, z)

@@ -11,7 +11,6 @@ use Rattle.voice.specs.declared.VoiceChange.the-variants as Change
 use Rattle.voice.specs.Changes.{voiceChanged, testOf, onSeen, noSeen}
 use Rattle.voice.specs.View.{Seen, seen}
 use Rattle.voices.specs.View.{seenFirst, voicesOf}
-use Rattle.voices.specs.declared.Found.{Found}
 use Rattle.voices.specs.declared.steal.Stolen.{Stolen}
 use Rattle.note.specs.declared.Note.{Note}
 use Rattle.model.specs.Voices.{newVoice}
@@ -171,28 +170,13 @@ abbrev pub HeldOn : PlayMode → List Note → ℕ → ℕ → Held → Type 0
 HeldOn Poly notes count note h = h ≡ record { notes = notes; count = count }
 HeldOn (Mono legato) notes count note h = WithNote notes count note h
 
--- the voice that sounds goes on
-abbrev pub keptOn : Found → VoiceChange → ℕ → ℕ → Held → NoteOn
-keptOn found change n next held = record {
-  reply = Kept (found .handle);
-  spent = false;
-  place = found .place;
-  change = change;
-  taken = n;
-  adds = false;
-  count = n;
-  next = next;
-  notes = held .notes;
-  «held_count» = held .count;
-}
-
--- no voice is changed
-abbrev pub stayOn : Reply → Bool → ℕ → ℕ → Held → NoteOn
-stayOn reply spent n next held = record {
+-- no voice is added: the one at `place` goes on, or none is there and none is changed
+abbrev pub stayOn : Reply → Bool → ℕ → VoiceChange → ℕ → ℕ → Held → NoteOn
+stayOn reply spent place change n next held = record {
   reply = reply;
   spent = spent;
-  place = n;
-  change = Change.Kill;
+  place = place;
+  change = change;
   taken = n;
   adds = false;
   count = n;
@@ -216,6 +200,7 @@ spawnOn stolen n next held = record {
   «held_count» = held .count;
 }
 
+-- the notes that it leaves held
 abbrev pub heldBy : NoteOn → Held
 heldBy o = record { notes = o .notes; count = o .«held_count» }
 

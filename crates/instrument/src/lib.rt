@@ -13,7 +13,7 @@ ghost use Rattle.model.specs.Notes.{velocityOf, noteOffOf};
 ghost use Rattle.formed.specs.Held.{heldFirst};
 ghost use Rattle.instrument.specs.declared.Instrument.{Instrument};
 ghost use Rattle.instrument.specs.View.{view, counted, formed as formedState};
-ghost use Rattle.instrument.specs.Calls.{emptyModel, refusedAs, answeredAs, barredBy, fallBackOf, Reads, OffAs, lastHandle, keptOn, stayOn, spawnOn, HeldOn, OnAs, CallAs, StartAs, Gives};
+ghost use Rattle.instrument.specs.Calls.{emptyModel, refusedAs, answeredAs, barredBy, fallBackOf, Reads, OffAs, lastHandle, stayOn, spawnOn, HeldOn, OnAs, CallAs, StartAs, Gives};
 ghost use Rattle.instrument.specs.Asked.{answerOf, askedOf, VoiceAs};
 use design::Adsr;
 use design::DesignReply;
@@ -28,7 +28,6 @@ use voice::Voice;
 use voice::VoiceChange;
 use voice::VoiceTest;
 use voice::new_voice;
-use voices::Found;
 use voices::steal::Stolen;
 
 mod mix;
@@ -581,35 +580,24 @@ fn held_on(mode: PlayMode, notes: [Note; 256], count: usize, note: u8) -> Held
     }
 }
 
-// The Mono voice that sounds takes the note and keeps its handle.
-fn keep(found: Found, change: VoiceChange, n: usize, next: u64, held: Held) -> NoteOn
-    ensures { λ o. ⌜ o ≡ keptOn found change n next held ⌝ }
-{
-    let notes = held.notes;
-    NoteOn {
-        reply: Reply::Kept(found.handle),
-        spent: false,
-        place: found.place,
-        change,
-        taken: n,
-        adds: false,
-        count: n,
-        next,
-        notes,
-        held_count: held.count,
-    }
-}
-
-// No voice is changed; `next` is the next handle after it.
-fn stay(reply: Reply, spent: bool, n: usize, next: u64, held: Held) -> NoteOn
-    ensures { λ o. ⌜ o ≡ stayOn reply spent n next held ⌝ }
+// No voice is added: the one at `place` goes on, or none is there and none is changed; `next` is the next handle after it.
+fn stay(
+    reply: Reply,
+    spent: bool,
+    place: usize,
+    change: VoiceChange,
+    n: usize,
+    next: u64,
+    held: Held,
+) -> NoteOn
+    ensures { λ o. ⌜ o ≡ stayOn reply spent place change n next held ⌝ }
 {
     let notes = held.notes;
     NoteOn {
         reply,
         spent,
-        place: n,
-        change: VoiceChange::Kill,
+        place,
+        change,
         taken: n,
         adds: false,
         count: n,
@@ -657,15 +645,17 @@ impl Instrument {
             let vs = self.voices;
             let found = voices::find_first(vs, n, VoiceTest::Sounding);
             if found.place < n {
+                let reply = Reply::Kept(found.handle);
                 let change = VoiceChange::Keep(note, design.glide, legato, velocity);
-                return keep(found, change, n, next, held);
+                return stay(reply, false, found.place, change, n, next, held);
             }
         }
+        let kill = VoiceChange::Kill;
         if next == 0xffff_ffff_ffff_ffff {
-            return stay(Reply::Refused(8), true, n, next, held);
+            return stay(Reply::Refused(8), true, n, kill, n, next, held);
         }
         if !built {
-            return stay(Reply::Silent(next), false, n, next + 1, held);
+            return stay(Reply::Silent(next), false, n, kill, n, next + 1, held);
         }
         let vs = self.voices;
         let stolen = voices::steal::steal(vs, n, design.max_voices as usize);

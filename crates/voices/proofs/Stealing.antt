@@ -1,7 +1,7 @@
 -- One look at a table finds the voices that make room.
 use mathlib.Core.Path.{_≡_, refl, ap, sym, _∙_}
 use mathlib.Core.Bool.{Bool, true, false, cond}
-use mathlib.Core.List.{List, [], _∷_, map}
+use mathlib.Core.List.{List, map}
 use Prim.Native.Nat.{ℕ, _+_, _*_, _/_, _≤_, _<_}
 use native.Mathlib.Omega.{arith}
 use borrow.Author.Tests.{le-leb, lt-leb, leb-true, leb-false}
@@ -11,7 +11,7 @@ use lib.ListN.{length, take, getD, length-take, length-set, List·getD-eq-defaul
 use Rattle.float32.specs.Order.{below}
 use Rattle.lists.specs.Choose.{chosen, cond-true, cond-false}
 use Rattle.lists.specs.Count.{count}
-use Rattle.lists.specs.Least.{lowest, lowestNext, lowest-more, lowest-le, lowest-is, lowest-map}
+use Rattle.lists.specs.Least.{lowest, lowestNext, lowest-more, lowest-le, lowest-map}
 use Rattle.lists.specs.Lone.{set-past}
 use Rattle.lists.specs.Places.{without, without-past}
 use lib.Seq.{map-set-same}
@@ -19,17 +19,17 @@ use Rattle.model.specs.Types.{Voice, noVoice, Model}
 use Rattle.model.specs.Formed.{max}
 use Rattle.model.specs.Voices.{sounding, anyVoice, quieter, killedVoice, changed, handleAt, quietestSounding, quietest}
 use Rattle.model.specs.Notes.{full, afterKill, killedHandle, crowded, afterTaking, takenHandle}
-use Rattle.model.proofs.Born.{killed-level, killed-handle, changed-same}
+use Rattle.model.proofs.Levels.{quieter-ordered}
+use Rattle.model.proofs.Born.{quietest-is, killed-level, killed-handle, changed-same}
 use Rattle.voices.specs.declared.steal.Stolen.{Stolen}
 use Rattle.voices.specs.Steal.{killedAt, takenAt, StolenFrom}
-use Rattle.voices.proofs.Table.{quieter-order}
 
 -- the place of the quietest among one voice more
 pub quietest-step : (p : Voice → Bool) (xs : List Voice) (i k r : ℕ) (passes under : Bool) → i < length xs → k ≡ lowest noVoice quieter p (take i xs)
     → passes ≡ p (getD xs i noVoice) → under ≡ quieter (getD xs i noVoice) (getD xs k noVoice) → r ≡ lowestNext i k passes under
     → (r ≡ lowest noVoice quieter p (take (i + 1) xs)) × (r ≤ i + 1)
 quietest-step p xs i k r passes under h e a b q =
-    let more = lowest-more noVoice quieter p quieter-order xs i h in
+    let more = lowest-more noVoice quieter p quieter-ordered xs i h in
     let next = rw (← e, ← a, ← b) at more in
     let is : r ≡ lowest noVoice quieter p (take (i + 1) xs) = q ∙ sym next in
     let le = lowest-le noVoice quieter p (take (i + 1) xs) in
@@ -57,20 +57,13 @@ stolen l max m c k q r em ec ek eq a b x y =
       takenHandle = y ∙ ap (λ (i : ℕ). handleAt i l) taken;
     }
 
-count-any : (l : List Voice) → count anyVoice l ≡ length l
-count-any [] = refl
-count-any (x ∷ l) = let h = count-any l in omega arith
-
 pub taken-le : (max : ℕ) (l : List Voice) → takenAt max l ≤ length l
 unfolding quietest
 taken-le max l = chosen (λ (k : ℕ). k ≤ length l) (leb (2 * max) (length l)) _ _ (λ _. lowest-le noVoice quieter anyVoice l) (λ _. omega arith)
 
 -- where 2 × max voices stand, one of them is taken out
 pub taken-inside : (max : ℕ) (l : List Voice) → 1 ≤ max → 2 * max ≤ length l → takenAt max l < length l
-unfolding quietest
-taken-inside max l o h =
-    let c = count-any l in
-    rw (le-leb (2 * max) (length l) h) (lowest-is noVoice quieter anyVoice quieter-order l (omega arith) .inside)
+taken-inside max l o h = rw (le-leb (2 * max) (length l) h) (quietest-is l (omega arith) .inside)
 
 -- ---- the table after both
 

@@ -5,11 +5,9 @@ use native.Mathlib.Nat.{mul-add}
 use Prim.Native.Nat.{ℕ, _+_, _*_, _<_, _≤_, min}
 use native.Mathlib.Omega.{arith}
 use lib.ListN.{length, drop, getD, length-map, length-take, List·getD-map, List·getD-eq-default}
-use Rattle.float32.proofs.Ordering.{level-order}
-use Rattle.lists.specs.Least.{Ordered}
 use Rattle.lists.specs.Prefix.{drop-more, shown-at}
 use Rattle.model.specs.Types as model
-use Rattle.model.specs.Voices.{quieter, copiesIn, handleAt}
+use Rattle.model.specs.Voices.{copiesIn, handleAt}
 use Rattle.voice.specs.declared.Voice.{Voice}
 use Rattle.voice.specs.View.{shown, Seen, seen}
 use Rattle.voices.specs.View.{seenFirst, voicesOf}
@@ -38,14 +36,6 @@ module _ (n : ℕ) (vs : List Voice) where
 
   pub handle-past : (i : ℕ) → length (table n vs) ≤ i → 0 ≡ handleAt i (table n vs)
   handle-past i h = sym (ap (λ (v : model.Voice). v .handle) (List·getD-eq-default (table n vs) model.noVoice h))
-
--- the order of levels is one of voices
-pub quieter-order : Ordered quieter
-unfolding quieter
-quieter-order = record {
-  oneWay = λ v w. level-order .ordered .oneWay (v .env .level) (w .env .level);
-  through = λ u v w. level-order .ordered .through (u .env .level) (v .env .level) (w .env .level);
-}
 
 -- how many numbers are left for the voices after the one at i, where each copy has `frames`
 voice-left : (xs : List model.Voice) (i at frames l : ℕ) (d : model.Voice) → i < length xs → at + frames * copiesIn (drop i xs) ≡ l

@@ -36,8 +36,8 @@ enum-known-mode c = search needs
 find-first-requires : tie.Need-find-first-requires
 find-first-requires c κs = search needs
 
-keep-requires : tie.Need-keep-requires
-keep-requires c κs = search needs
+stay-requires : tie.Need-stay-requires
+stay-requires c κs = search needs
 
 returns : tie.Need-returns
 returns c =
@@ -48,14 +48,14 @@ returns c =
     let s = h .before .before .before in
     let x = s .args .self in
     let e = m .mode .given .1 in
-    rw (c .keep .ensures) (on-kept x (free x (s .pre)) (voices-long x (s .good .0)) (held-long x (s .good .0)) (m .mode .given .0 .0) e (f .find-first .result) (f .find-first .ensures) (s .args .note) (s .args .velocity) (s .args .built) (h .held-on .result) (t .if1 .taken)
+    rw (c .stay .ensures) (on-kept x (free x (s .pre)) (voices-long x (s .good .0)) (held-long x (s .good .0)) (m .mode .given .0 .0) e (f .find-first .result) (f .find-first .ensures) (s .args .note) (s .args .velocity) (s .args .built) (h .held-on .result) (t .if1 .taken)
     (subst (λ (p : PlayMode). HeldOn p (x .held) (x .«held_count») (s .args .note) (h .held-on .result)) e (h .held-on .ensures)))
 
 enum-told : tie.Need-enum-told
 enum-told c = search needs
 
-stay-requires : tie.Need-stay-requires
-stay-requires c κs = search needs
+stay-requires-2 : tie.Need-stay-requires-2
+stay-requires-2 c κs = search needs
 
 returns-2 : tie.Need-returns-2
 returns-2 c =
@@ -64,13 +64,13 @@ returns-2 c =
     let h = m .before in
     let s = h .before .before .before in
     let x = s .args .self in
-    rw (c .stay .ensures) (on-spent x (free x (s .pre)) (voices-long x (s .good .0)) (held-long x (s .good .0)) (s .args .note) (s .args .velocity) (s .args .built) (h .held-on .result) (h .held-on .ensures) (due m) (t .if2 .taken))
+    rw (c .stay2 .ensures) (on-spent x (free x (s .pre)) (voices-long x (s .good .0)) (held-long x (s .good .0)) (s .args .note) (s .args .velocity) (s .args .built) (h .held-on .result) (h .held-on .ensures) (due m) (t .if2 .taken))
 
 add-stay : tie.Need-add-stay
 add-stay c = search needs
 
-stay-requires-2 : tie.Need-stay-requires-2
-stay-requires-2 c κs = search needs
+stay-requires-3 : tie.Need-stay-requires-3
+stay-requires-3 c κs = search needs
 
 returns-3 : tie.Need-returns-3
 returns-3 c =
@@ -79,7 +79,7 @@ returns-3 c =
     let h = m .before in
     let s = h .before .before .before in
     let x = s .args .self in
-    rw (c .stay2 .ensures) (on-silent x (free x (s .pre)) (voices-long x (s .good .0)) (held-long x (s .good .0)) (s .args .note) (s .args .velocity) (s .args .built) (h .held-on .result) (h .held-on .ensures) (due m) (t .before .if2 .left) (not-true _ (t .if3 .taken)))
+    rw (c .stay3 .ensures) (on-silent x (free x (s .pre)) (voices-long x (s .good .0)) (held-long x (s .good .0)) (s .args .note) (s .args .velocity) (s .args .built) (h .held-on .result) (h .held-on .ensures) (due m) (t .before .if2 .left) (not-true _ (t .if3 .taken)))
 
 cast-steal : tie.Need-cast-steal
 cast-steal c = search needs
@@ -112,13 +112,13 @@ on-of-spec =
     held-on-requires
     enum-known-mode
     find-first-requires
-    keep-requires
+    stay-requires
     returns
     enum-told
-    stay-requires
+    stay-requires-2
     returns-2
     add-stay
-    stay-requires-2
+    stay-requires-3
     returns-3
     cast-steal
     steal-requires
