@@ -2,6 +2,7 @@
 // The patch, the pitch map and the master chain are the host's.
 
 ghost use mathlib.Core.Path.{_≡_};
+ghost use Rattle.design.specs.Zeros.{zeroDesign};
 ghost use Rattle.design.specs.Accepted.{lfoActive, modulated, modulationFinite, numbersFit, floatsFit, designReply, copiesOf};
 
 // How notes share voices.
@@ -138,5 +139,33 @@ impl InstrumentDesign {
         ensures { λ n. ⌜ n ≡ copiesOf self ⌝ }
     {
         if self.unison == 0 { 1 } else { self.unison }
+    }
+}
+
+// The design of the state that comes with a refused start.
+pub fn zero_design() -> InstrumentDesign
+    ensures { λ d. ⌜ d ≡ zeroDesign ⌝ }
+{
+    InstrumentDesign {
+        sample_rate: 0,
+        max_voices: 0,
+        mode: PlayMode::Poly,
+        unison: 0,
+        unison_width: 0.0,
+        amp: Adsr {
+            a: 0.0,
+            d: 0.0,
+            s: 0.0,
+            r: 0.0,
+        },
+        glide: 0.0,
+        modulation: Modulation {
+            vibrato_rate: 0.0,
+            vibrato_cents: 0.0,
+            tremolo_rate: 0.0,
+            tremolo_depth: 0.0,
+            filter_rate: 0.0,
+            filter_octaves: 0.0,
+        },
     }
 }

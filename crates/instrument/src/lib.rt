@@ -6,7 +6,6 @@ ghost use Prim.Native.Nat.{_≤_, _<_};
 ghost use Rattle.design.specs.Accepted.{isAccepted};
 ghost use Rattle.model.specs.Types.{Call};
 ghost use Rattle.model.specs.Formed.{framesFit, blockFits};
-ghost use Rattle.model.specs.Start.{zeroDesign};
 ghost use Rattle.model.specs.Queries.{isActive, activeVoices};
 ghost use Rattle.design.specs.declared.PlayMode.the-variants.{Poly, Mono};
 ghost use Rattle.model.specs.Notes.{velocityOf, noteOffOf};
@@ -15,11 +14,10 @@ ghost use Rattle.instrument.specs.declared.Instrument.{Instrument};
 ghost use Rattle.instrument.specs.View.{view, counted, formed as formedState};
 ghost use Rattle.instrument.specs.Calls.{emptyModel, refusedAs, answeredAs, barredBy, fallBackOf, Reads, OffAs, lastHandle, stayOn, spawnOn, HeldOn, OnAs, CallAs, StartAs, Gives};
 ghost use Rattle.instrument.specs.Asked.{answerOf, askedOf, VoiceAs};
-use design::Adsr;
 use design::DesignReply;
 use design::InstrumentDesign;
-use design::Modulation;
 use design::PlayMode;
+use design::zero_design;
 use envelope::EnvGen;
 use formed::Held;
 use note::Note;
@@ -257,33 +255,6 @@ impl Instrument {
                 state: Instrument::empty(zero_design(), 0, 0.0),
             },
         }
-    }
-}
-
-fn zero_design() -> InstrumentDesign
-    ensures { λ d. ⌜ d ≡ zeroDesign ⌝ }
-{
-    InstrumentDesign {
-        sample_rate: 0,
-        max_voices: 0,
-        mode: PlayMode::Poly,
-        unison: 0,
-        unison_width: 0.0,
-        amp: Adsr {
-            a: 0.0,
-            d: 0.0,
-            s: 0.0,
-            r: 0.0,
-        },
-        glide: 0.0,
-        modulation: Modulation {
-            vibrato_rate: 0.0,
-            vibrato_cents: 0.0,
-            tremolo_rate: 0.0,
-            tremolo_depth: 0.0,
-            filter_rate: 0.0,
-            filter_octaves: 0.0,
-        },
     }
 }
 

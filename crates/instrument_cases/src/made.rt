@@ -82,11 +82,9 @@ fn voice(design: InstrumentDesign, handle: u64, releases: u64) -> Voice {
 }
 
 fn with(mut s: Instrument, v: Voice) -> Instrument {
-    let vs = s.voices;
     let n = s.voice_count;
-    let ws = voices::push(vs, n, v);
-    s.voices = ws;
     if n < 64 {
+        s.voices[n] = v;
         s.voice_count = n + 1;
     }
     s

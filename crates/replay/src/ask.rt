@@ -105,37 +105,11 @@ fn design_of(f: DesignForm) -> InstrumentDesign {
     }
 }
 
-// A design that is refused.
-pub fn no_design() -> InstrumentDesign {
-    InstrumentDesign {
-        sample_rate: 0,
-        max_voices: 0,
-        mode: PlayMode::Poly,
-        unison: 0,
-        unison_width: 0.0,
-        amp: Adsr {
-            a: 0.0,
-            d: 0.0,
-            s: 0.0,
-            r: 0.0,
-        },
-        glide: 0.0,
-        modulation: Modulation {
-            vibrato_rate: 0.0,
-            vibrato_cents: 0.0,
-            tremolo_rate: 0.0,
-            tremolo_depth: 0.0,
-            filter_rate: 0.0,
-            filter_octaves: 0.0,
-        },
-    }
-}
-
-// The design of a line that is one.
+// The design of a line that is one; of another line, one that is refused.
 pub fn design(line: &[u8]) -> InstrumentDesign {
     let form = forms::read(line);
     if let forms::Form::Design(f) = form {
         return design_of(f);
     }
-    no_design()
+    design::zero_design()
 }

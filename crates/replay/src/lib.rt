@@ -33,7 +33,7 @@ pub struct Answered {
 impl Session {
     // An instrument and an envelope of refused starts.
     pub fn new() -> Session {
-        let new = Instrument::new(ask::no_design());
+        let new = Instrument::new(design::zero_design());
         let instrument = new.state;
         let made = EnvGen::new(0.0, 0.0, 0.0, 0.0, 0);
         let env = made.env;

@@ -3,11 +3,9 @@
 
 ghost use mathlib.Core.Path.{_≡_};
 ghost use mathlib.Core.Bool.{true};
-ghost use mathlib.Core.List.{_++_, [], _∷_};
-ghost use Prim.Native.Nat.{_+_, _*_, _<_, _≤_, min};
+ghost use Prim.Native.Nat.{_*_, _≤_, min};
 ghost use lib.Dec.{eqb};
 ghost use Rattle.lists.specs.Count.{oneIf, count};
-ghost use Rattle.voice.specs.View.{seen};
 ghost use Rattle.voice.specs.Changes.{testOf};
 ghost use Rattle.voices.specs.View.{seenFirst, voicesOf};
 ghost use Rattle.voices.specs.Steal.{FoundFirst};
@@ -69,18 +67,6 @@ pub fn find_first(vs: [Voice; 64], n: usize, test: VoiceTest) -> Found
         place: i,
         handle: 0,
     }
-}
-
-// A voice more, at the end.
-pub fn push(vs: [Voice; 64], n: usize, v: Voice) -> [Voice; 64]
-    ensures { λ r. ⌜ (n < 64 → seenFirst (n + 1) r ≡ seenFirst n vs ++ (seen v ∷ [])) ⌝ }
-{
-    if 64 <= n {
-        return vs;
-    }
-    let mut ws = vs;
-    ws[n] = v;
-    ws
 }
 
 // Whether both are so small that their product fits.

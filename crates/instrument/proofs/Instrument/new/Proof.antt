@@ -6,7 +6,7 @@ use Rattle.instrument.proofs.Instrument.new.Reads as reads
 use Rattle.instrument.proofs.Instrument.new.Lts as lts
 use Rattle.design.proofs.InstrumentDesign.accepted.Reads as accepted-reads
 use Rattle.instrument.proofs.Instrument.empty.Reads as empty-reads
-use Rattle.instrument.proofs.zero_design.Reads as zero-design-reads
+use Rattle.design.proofs.zero_design.Reads as zero-design-reads
 
 -- src/lib.rt:395:13
 accepted-requires : tie.Need-accepted-requires
