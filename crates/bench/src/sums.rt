@@ -1,8 +1,7 @@
 // Sums over what was computed. A step is 3 × sum + x, so that every term stays in it.
 
-ghost use mathlib.Core.Path.{_≡_};
-ghost use Prim.Native.Nat.{min};
 use instrument::Instrument;
+use lists::smaller;
 use std::num::wrapping_add_u64;
 use voice::Voice;
 
@@ -42,15 +41,9 @@ fn voice(sum: u64, v: Voice) -> u64 {
     )
 }
 
-fn least(a: usize, b: usize) -> usize
-    ensures { λ r. ⌜ r ≡ min a b ⌝ }
-{
-    if a < b { a } else { b }
-}
-
 // The voices of a state, each with its first copy.
 pub fn table(s: Instrument) -> u64 {
-    let n = least(s.voice_count, 64);
+    let n = smaller(s.voice_count, 64);
     let mut sum = n as u64;
     let mut i: usize = 0;
     while i < n {

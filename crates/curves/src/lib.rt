@@ -3,21 +3,16 @@
 ghost use mathlib.Core.Path.{_≡_};
 ghost use mathlib.Core.Bool.{true, false, _&&_};
 ghost use mathlib.Core.List.{map, zipWith};
-ghost use Prim.Native.Nat.{_+_, _*_, _≤_, _<_, min};
+ghost use Prim.Native.Nat.{_+_, _*_, _≤_, _<_};
 ghost use lib.Dec.{eqb};
 ghost use lib.ListN.{length, take, replicate};
 ghost use Rattle.lists.specs.All.{all};
 ghost use Rattle.stream.specs.Pitch.{glideStep, stepped, heard as heardOf, GlidedOver};
 ghost use Rattle.voice.specs.View.{shown, seen};
 ghost use Rattle.curves.specs.Glides.{column, GlidedCopies, StandAs, StandsAs, GlidedVoice, WrittenVoice, single, withOnly, GlidedVoices};
+use lists::smaller;
 use stream::UnisonCopy;
 use voice::Voice;
-
-fn smaller(a: usize, b: usize) -> usize
-    ensures { λ r. ⌜ r ≡ min a b ⌝ }
-{
-    if a < b { a } else { b }
-}
 
 // Whether two floats are the same. A comparison would take the two zeros for one.
 fn same(a: f32, b: f32) -> bool

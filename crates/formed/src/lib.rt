@@ -2,7 +2,7 @@
 
 ghost use mathlib.Core.Path.{_≡_};
 ghost use mathlib.Core.Bool.{false, _&&_};
-ghost use Prim.Native.Nat.{_<_, min};
+ghost use Prim.Native.Nat.{_<_};
 ghost use lib.ListN.{replicate};
 ghost use Rattle.lists.specs.Count.{oneIf};
 ghost use Rattle.lists.specs.Perms.{distinct};
@@ -15,16 +15,10 @@ ghost use Rattle.formed.specs.Check.{stageAgrees, voiceFits, lookStart, 
 use design::InstrumentDesign;
 use design::PlayMode;
 use envelope::Stage;
+use lists::smaller;
 use note::Note;
 use voice::Voice;
 use voice::VoiceTest;
-
-// The smaller of two: a pass never leaves its array.
-fn least(a: usize, b: usize) -> usize
-    ensures { λ r. ⌜ r ≡ min a b ⌝ }
-{
-    if a < b { a } else { b }
-}
 
 // Whether a stage goes with `releasing`, and is not Idle.
 fn stage_fits(stage: Stage, releasing: bool) -> bool
@@ -97,7 +91,7 @@ fn look_at(before: Looked, v: Voice, next: u64, copies: usize) -> Looked
 fn look(vs: [Voice; 64], n: usize, next: u64, copies: usize) -> Looked
     ensures { λ r. ⌜ r ≡ fold (lookNext next copies) lookStart (seenFirst n vs) ⌝ }
 {
-    let end = least(n, 64);
+    let end = smaller(n, 64);
     let mut looked = Looked {
         sounding: 0,
         fit: true,
@@ -131,7 +125,7 @@ fn no_flags() -> [bool; 256]
 fn held_distinct(held: [Note; 256], n: usize) -> bool
     ensures { λ b. ⌜ b ≡ distinct (heldFirst n held) ⌝ }
 {
-    let end = least(n, 256);
+    let end = smaller(n, 256);
     let mut seen = no_flags();
     let mut i: usize = 0;
     while i < end {
@@ -149,7 +143,7 @@ fn held_distinct(held: [Note; 256], n: usize) -> bool
 fn handles_distinct(vs: [Voice; 64], n: usize) -> bool
     ensures { λ b. ⌜ b ≡ distinct (handles (voicesOf (seenFirst n vs))) ⌝ }
 {
-    let end = least(n, 64);
+    let end = smaller(n, 64);
     let mut i: usize = 0;
     while i < end {
         let v = vs[i];
@@ -220,7 +214,7 @@ pub struct Held {
 pub fn held_without(held: [Note; 256], n: usize, note: u8) -> Held
     ensures { λ r. ⌜ WithoutNote held n note r ⌝ }
 {
-    let end = least(n, 256);
+    let end = smaller(n, 256);
     let mut notes = held;
     let mut w: usize = 0;
     let mut i: usize = 0;

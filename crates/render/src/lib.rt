@@ -3,7 +3,7 @@
 
 ghost use mathlib.Core.Path.{_≡_};
 ghost use mathlib.Core.Bool.{not};
-ghost use Prim.Native.Nat.{_+_, _*_, _≤_, min};
+ghost use Prim.Native.Nat.{_+_, _*_, _≤_};
 ghost use lib.Dec.{leb};
 ghost use lib.ListN.{length, take, drop};
 ghost use Rattle.lists.specs.Prefix.{fold};
@@ -13,14 +13,9 @@ ghost use Rattle.voice.specs.View.{shown};
 ghost use Rattle.render.specs.Parts.{row, partCopy, gains, addFour, BothSides};
 ghost use Rattle.render.specs.Mixes.{Fits, AddedAs, addedVoice, FitsOut, PutAs};
 use envelope::EnvGen;
+use lists::smaller;
 use stream::UnisonCopy;
 use voice::Voice;
-
-fn smaller(a: usize, b: usize) -> usize
-    ensures { λ r. ⌜ r ≡ min a b ⌝ }
-{
-    if a < b { a } else { b }
-}
 
 // One copy goes into a part, on both sides.
 fn add_one(

@@ -2,7 +2,6 @@
 // Each part is compared by itself and the answers are joined, so that a comparison has one way out.
 
 ghost use mathlib.Core.Path.{_≡_};
-ghost use Prim.Native.Nat.{min};
 ghost use lib.ListN.{take};
 ghost use Rattle.voice.specs.View.{seen};
 ghost use Rattle.voices.specs.View.{seenFirst};
@@ -16,17 +15,11 @@ use design::PlayMode;
 use envelope::EnvGen;
 use envelope::Stage;
 use instrument::Instrument;
+use lists::smaller;
 use note::Note;
 use stream::Cutoff;
 use stream::UnisonCopy;
 use voice::Voice;
-
-// The smaller of two: a pass never leaves its array.
-fn least(a: usize, b: usize) -> usize
-    ensures { λ r. ⌜ r ≡ min a b ⌝ }
-{
-    if a < b { a } else { b }
-}
 
 // By the bits: the zeros differ by their sign, and a NaN is any NaN.
 fn float_same(a: f32, b: f32) -> bool
@@ -101,7 +94,7 @@ fn copy_same(a: UnisonCopy, b: UnisonCopy) -> bool
 fn copies_same(a: [UnisonCopy; 8], b: [UnisonCopy; 8], n: usize) -> bool
     ensures { λ r. ⌜ Decides r (take n a ≡ take n b) ⌝ }
 {
-    let end = least(n, 8);
+    let end = smaller(n, 8);
     let mut i: usize = 0;
     while i < end {
         if !copy_same(a[i], b[i]) {
@@ -135,7 +128,7 @@ fn voice_same(a: Voice, b: Voice) -> bool
 fn voices_same(a: [Voice; 64], b: [Voice; 64], n: usize) -> bool
     ensures { λ r. ⌜ Decides r (seenFirst n a ≡ seenFirst n b) ⌝ }
 {
-    let end = least(n, 64);
+    let end = smaller(n, 64);
     let mut i: usize = 0;
     while i < end {
         if !voice_same(a[i], b[i]) {
@@ -156,7 +149,7 @@ fn note_same(a: Note, b: Note) -> bool
 fn notes_same(a: [Note; 256], b: [Note; 256], n: usize) -> bool
     ensures { λ r. ⌜ Decides r (heldFirst n a ≡ heldFirst n b) ⌝ }
 {
-    let end = least(n, 256);
+    let end = smaller(n, 256);
     let mut i: usize = 0;
     while i < end {
         if !note_same(a[i], b[i]) {

@@ -1,8 +1,7 @@
 // The line handler of the script program.
 ghost use mathlib.Core.Path.{_≡_};
-ghost use mathlib.Core.List.{_++_};
 ghost use lib.Ieee.{ofBits, binary32};
-ghost use Prim.Native.Nat.{_+_, _<_, _≤_, min};
+ghost use Prim.Native.Nat.{_+_, _<_, _≤_};
 ghost use lib.ListN.{length};
 ghost use mathlib.Core.Bool.{true, false};
 ghost use Rattle.lists.specs.Count.{oneIf};
@@ -12,7 +11,7 @@ ghost use Rattle.instrument.specs.Calls.{replyOf};
 ghost use Rattle.instrument.specs.declared.Reply.the-variants.{Started};
 ghost use Rattle.forms.specs.Forms.{DesignFits, OnFits};
 ghost use Rattle.forms.specs.Forms.{decimalPart, wordPart};
-ghost use Rattle.script.specs.Answers.{unreadText, oneText, refusedText, replyText, rowText, rowsText, tableText};
+ghost use Rattle.script.specs.Answers.{unreadText, oneText, replyText, rowText, rowsText, tableText};
 ghost use Rattle.script.specs.Lines.{Puts, modeOf, designOf, callOf, refusalNumber, NoDesign, Stays, DesignDoes, OnDoes, VoicesDoes, LineAs};
 use design::Adsr;
 use design::DesignReply;
@@ -24,6 +23,7 @@ use forms::Form;
 use forms::OnForm;
 use instrument::Instrument;
 use instrument::Reply;
+use lists::smaller;
 use voice::Voice;
 
 // `ready` once a design was accepted.
@@ -105,12 +105,6 @@ fn put_row(out: &mut [u8], at: usize, v: Voice) -> usize
     let d = put_decimal(out, c, b" ", bit(v.sustained));
     let e = put_word(out, d, b" ", float32::to_bits(env.level));
     text::put_literal(out, e, b")")
-}
-
-fn smaller(a: usize, b: usize) -> usize
-    ensures { λ r. ⌜ r ≡ min a b ⌝ }
-{
-    if a < b { a } else { b }
 }
 
 fn put_rows(vs: [Voice; 64], n: usize, out: &mut [u8]) -> usize

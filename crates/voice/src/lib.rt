@@ -16,6 +16,7 @@ ghost use Rattle.voice.specs.View.{shown, seen};
 ghost use Rattle.voice.specs.Changes.{copyChanged, voiceChanged, testOf, onSeen};
 use design::InstrumentDesign;
 use envelope::EnvGen;
+use lists::smaller;
 use note::Note;
 use stream::UnisonCopy;
 
@@ -64,12 +65,6 @@ pub enum VoiceTest {
     Plays(u8),
     // Of the note, not releasing.
     SoundsNote(u8),
-}
-
-fn smaller(a: usize, b: usize) -> usize
-    ensures { λ r. ⌜ r ≡ min a b ⌝ }
-{
-    if a < b { a } else { b }
 }
 
 fn change_copy(c: UnisonCopy, change: CopyChange) -> UnisonCopy

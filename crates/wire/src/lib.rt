@@ -2,7 +2,6 @@
 
 ghost use mathlib.Core.Path.{_≡_};
 ghost use mathlib.Core.List.{map};
-ghost use Prim.Native.Nat.{min};
 ghost use lib.ListN.{take};
 ghost use Rattle.voice.specs.View.{seen};
 ghost use Rattle.voices.specs.View.{seenFirst};
@@ -15,6 +14,7 @@ use design::PlayMode;
 use envelope::EnvGen;
 use envelope::Stage;
 use instrument::Instrument;
+use lists::smaller;
 use note::Note;
 use stream::Cutoff;
 use stream::UnisonCopy;
@@ -100,12 +100,6 @@ pub struct HostState {
     pub held: [u8; 256],
     pub held_count: usize,
     pub frames: usize,
-}
-
-fn smaller(a: usize, b: usize) -> usize
-    ensures { λ r. ⌜ r ≡ min a b ⌝ }
-{
-    if a < b { a } else { b }
 }
 
 fn mode_of(number: u32) -> PlayMode

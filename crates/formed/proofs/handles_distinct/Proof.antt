@@ -14,7 +14,7 @@ use Rattle.formed.proofs.handles_distinct.Statement.{statement}
 use Rattle.formed.proofs.handles_distinct.Tie as tie
 use Rattle.formed.proofs.handles_distinct.Reads as reads
 use Rattle.formed.proofs.handles_distinct.Lts as lts
-use Rattle.formed.proofs.least.Reads as least-reads
+use Rattle.lists.proofs.smaller.Reads as smaller-reads
 use Rattle.voices.proofs.count_of.Reads as count-of-reads
 
 abbrev Inv-loop : tie.InvT-loop
@@ -24,8 +24,8 @@ abbrev μ-loop : tie.MeasureT-loop
 μ-loop n vs end i₀ i = end - i
 
 -- src/lib.rt:163:9
-least-requires : tie.Need-least-requires Inv-loop μ-loop
-least-requires c κs = search needs
+smaller-requires : tie.Need-smaller-requires Inv-loop μ-loop
+smaller-requires c κs = search needs
 
 -- src/lib.rt:165:5
 loop-holds : tie.Need-loop-holds Inv-loop μ-loop
@@ -64,10 +64,10 @@ loop-again c =
     let b = a .before in
     let s = b .before .before in
     let l : length (s .args .t1) ≡ 64 = s .good .0 .1 .0 .1 in
-    let q = b .before .least .ensures in (
+    let q = b .before .smaller .ensures in (
       omega arith,
       below-more (λ (j : ℕ). times (getD (handlesFirst (s .args .n) (s .args .t1)) j 0) (handlesFirst (s .args .n) (s .args .t1)) ≤ 1) (b .loop .i) (b .loop .inv .1)
-          (counted-once (voicesOf (seenFirst (s .args .n) (s .args .t1))) _ _ _ (handle-of (s .args .t1) (s .args .n) (b .before .least .result) (b .loop .i) _ l q (a .loop-test .taken)) (c .before .count-of .ensures) (c .if1 .left)),
+          (counted-once (voicesOf (seenFirst (s .args .n) (s .args .t1))) _ _ _ (handle-of (s .args .t1) (s .args .n) (b .before .smaller .result) (b .loop .i) _ l q (a .loop-test .taken)) (c .before .count-of .ensures) (c .if1 .left)),
     )
 
 -- src/lib.rt:157:1
@@ -76,8 +76,8 @@ returns-2 c =
     let b = c .before in
     let s = b .before .before in
     let l : length (s .args .t1) ≡ 64 = s .good .0 .1 .0 .1 in
-    let q = b .before .least .ensures in
-    let k = handles-most (s .args .t1) (s .args .n) (b .before .least .result) l q in
+    let q = b .before .smaller .ensures in
+    let k = handles-most (s .args .t1) (s .args .n) (b .before .smaller .result) l q in
     let i = b .loop .inv .0 in
     let t = c .loop-test .left in
     sym (each-distinct (handlesFirst (s .args .n) (s .args .t1)) (λ j p. b .loop .inv .1 j (omega arith)))
@@ -88,7 +88,7 @@ handles-distinct-spec =
     (tie.spec
     Inv-loop
     μ-loop
-    least-requires
+    smaller-requires
     loop-holds
     mul-v
     array-copy-out-v

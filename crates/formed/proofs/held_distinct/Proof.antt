@@ -12,7 +12,7 @@ use Rattle.formed.proofs.held_distinct.Statement.{statement}
 use Rattle.formed.proofs.held_distinct.Tie as tie
 use Rattle.formed.proofs.held_distinct.Reads as reads
 use Rattle.formed.proofs.held_distinct.Lts as lts
-use Rattle.formed.proofs.least.Reads as least-reads
+use Rattle.lists.proofs.smaller.Reads as smaller-reads
 use Rattle.formed.proofs.no_flags.Reads as no-flags-reads
 use Rattle.formed.proofs.place.Reads as place-reads
 
@@ -23,8 +23,8 @@ abbrev μ-loop : tie.MeasureT-loop
 μ-loop n held end seen₀ i₀ seen i = end - i
 
 -- src/lib.rt:136:9
-least-requires : tie.Need-least-requires Inv-loop μ-loop
-least-requires c κs = search needs
+smaller-requires : tie.Need-smaller-requires Inv-loop μ-loop
+smaller-requires c κs = search needs
 
 -- src/lib.rt:137:20
 no-flags-requires : tie.Need-no-flags-requires Inv-loop μ-loop
@@ -53,11 +53,11 @@ returns c =
     let b = a .before in
     let s = b .before .before .before in
     let l : length (s .args .t1) ≡ 256 = s .good .0 .1 .0 .1 in
-    let m = b .before .before .least .ensures in
-    let e : b .before .before .least .result ≤ 256 = omega arith in
+    let m = b .before .before .smaller .ensures in
+    let e : b .before .before .smaller .result ≤ 256 = omega arith in
     let t = a .loop-test .taken in
-    sym (ap distinct (sym (held-least (s .args .n) (s .args .t1) l (b .before .before .least .result) m))
-    ∙ flags-fail (s .args .t1) (b .loop .i) _ (b .loop .seen) (omega arith) (b .loop .inv .1) (c .before .place .result) (c .before .place .ensures .0) (c .before .place .ensures .1) (b .before .before .least .result) t (c .if1 .taken))
+    sym (ap distinct (sym (held-least (s .args .n) (s .args .t1) l (b .before .before .smaller .result) m))
+    ∙ flags-fail (s .args .t1) (b .loop .i) _ (b .loop .seen) (omega arith) (b .loop .inv .1) (c .before .place .result) (c .before .place .ensures .0) (c .before .place .ensures .1) (b .before .before .smaller .result) t (c .if1 .taken))
 
 -- src/lib.rt:144:9
 array-write-seen : tie.Need-array-write-seen Inv-loop μ-loop
@@ -78,8 +78,8 @@ loop-again c =
     let b = a .before in
     let s = b .before .before .before in
     let l : length (s .args .t1) ≡ 256 = s .good .0 .1 .0 .1 in
-    let m = b .before .before .least .ensures in
-    let e : b .before .before .least .result ≤ 256 = omega arith in
+    let m = b .before .before .smaller .ensures in
+    let e : b .before .before .smaller .result ≤ 256 = omega arith in
     let t = a .loop-test .taken in
     (omega arith, flags-more (s .args .t1) (b .loop .i) _ (b .loop .seen) (omega arith) (b .loop .inv .1) (c .before .place .result) (c .before .place .ensures .0) (c .before .place .ensures .1) (c .if1 .left))
 
@@ -89,11 +89,11 @@ returns-2 c =
     let b = c .before in
     let s = b .before .before .before in
     let l : length (s .args .t1) ≡ 256 = s .good .0 .1 .0 .1 in
-    let m = b .before .before .least .ensures in
+    let m = b .before .before .smaller .ensures in
     let i = b .loop .inv .0 in
     let t = c .loop-test .left in
-    let e : b .before .before .least .result ≡ b .loop .i = omega arith in
-    sym (ap distinct (sym (held-least (s .args .n) (s .args .t1) l (b .before .before .least .result) m) ∙ ap (λ (k : ℕ). heldFirst k (s .args .t1)) e) ∙ b .loop .inv .1 .once)
+    let e : b .before .before .smaller .result ≡ b .loop .i = omega arith in
+    sym (ap distinct (sym (held-least (s .args .n) (s .args .t1) l (b .before .before .smaller .result) m) ∙ ap (λ (k : ℕ). heldFirst k (s .args .t1)) e) ∙ b .loop .inv .1 .once)
 
 pub held-distinct-spec : {M : Type 1} → statement M
 held-distinct-spec =
@@ -101,7 +101,7 @@ held-distinct-spec =
     (tie.spec
     Inv-loop
     μ-loop
-    least-requires
+    smaller-requires
     no-flags-requires
     loop-holds
     array-copy-out-place

@@ -12,7 +12,7 @@ use Rattle.formed.proofs.held_without.Statement.{statement}
 use Rattle.formed.proofs.held_without.Tie as tie
 use Rattle.formed.proofs.held_without.Reads as reads
 use Rattle.formed.proofs.held_without.Lts as lts
-use Rattle.formed.proofs.least.Reads as least-reads
+use Rattle.lists.proofs.smaller.Reads as smaller-reads
 use Rattle.formed.proofs.place.Reads as place-reads
 
 abbrev Inv-loop : tie.InvT-loop
@@ -22,8 +22,8 @@ abbrev μ-loop : tie.MeasureT-loop
 μ-loop n note end notes₀ w₀ i₀ notes w i = end - i
 
 -- src/lib.rt:161:9
-least-requires : tie.Need-least-requires Inv-loop μ-loop
-least-requires c κs = search needs
+smaller-requires : tie.Need-smaller-requires Inv-loop μ-loop
+smaller-requires c κs = search needs
 
 -- src/lib.rt:165:5
 loop-holds : tie.Need-loop-holds Inv-loop μ-loop
@@ -59,7 +59,7 @@ loop-again c =
     let b = c .before .before .before .before in
     let s = b .before .before in
     let l : length (s .args .held) ≡ 256 = s .good .0 .1 .0 .1 in
-    let m = b .before .least .ensures in
+    let m = b .before .smaller .ensures in
     let t = c .before .before .before .loop-test .taken in
     let p = c .before .place .ensures in
     ⊎-elim
@@ -73,10 +73,10 @@ returns c =
     let b = c .before in
     let s = b .before .before in
     let l : length (s .args .held) ≡ 256 = s .good .0 .1 .0 .1 in
-    let m = b .before .least .ensures in
+    let m = b .before .smaller .ensures in
     let i = b .loop .inv .0 in
     let t = c .loop-test .left in
-    let e : b .loop .i ≡ b .before .least .result = omega arith in
+    let e : b .loop .i ≡ b .before .smaller .result = omega arith in
     let q = b .loop .inv .1 .pass .order in
     let n : heldFirst (b .loop .i) (s .args .held) ≡ heldFirst (s .args .n) (s .args .held) = held-least (s .args .n) (s .args .held) l (b .loop .i) (e ∙ m) in
     record {
@@ -91,7 +91,7 @@ held-without-spec =
     (tie.spec
     Inv-loop
     μ-loop
-    least-requires
+    smaller-requires
     loop-holds
     array-copy-out-x
     place-requires

@@ -9,7 +9,7 @@ use Rattle.formed.proofs.look.Statement.{statement}
 use Rattle.formed.proofs.look.Tie as tie
 use Rattle.formed.proofs.look.Reads as reads
 use Rattle.formed.proofs.look.Lts as lts
-use Rattle.formed.proofs.least.Reads as least-reads
+use Rattle.lists.proofs.smaller.Reads as smaller-reads
 use Rattle.formed.proofs.look_at.Reads as look-at-reads
 
 abbrev Inv-loop : tie.InvT-loop
@@ -19,8 +19,8 @@ abbrev μ-loop : tie.MeasureT-loop
 μ-loop n next copies vs end looked₀ i₀ looked i = end - i
 
 -- src/lib.rt:100:9
-least-requires : tie.Need-least-requires Inv-loop μ-loop
-least-requires c κs = search needs
+smaller-requires : tie.Need-smaller-requires Inv-loop μ-loop
+smaller-requires c κs = search needs
 
 -- src/lib.rt:108:5
 loop-holds : tie.Need-loop-holds Inv-loop μ-loop
@@ -39,7 +39,7 @@ array-copy-out-look-at c = search needs
 look-at-requires : tie.Need-look-at-requires Inv-loop μ-loop
 look-at-requires c κs =
     let b = c .before .before in
-    let m = b .before .least .ensures in
+    let m = b .before .smaller .ensures in
     let few = b .loop .inv .1 .few in
     let t = c .before .loop-test .taken in
     omega arith
@@ -58,9 +58,9 @@ loop-again c =
     let b = c .before .before .before in
     let s = b .before .before in
     let l : length (s .args .t1) ≡ 64 = s .good .0 .1 .0 .1 in
-    let m = b .before .least .ensures in
+    let m = b .before .smaller .ensures in
     let t = c .before .before .loop-test .taken in
-    (omega arith, looking-more _ _ (s .args .t1) (b .before .least .result) _ _ _ _ (omega arith) t (b .loop .inv .1) (c .look-at .ensures))
+    (omega arith, looking-more _ _ (s .args .t1) (b .before .smaller .result) _ _ _ _ (omega arith) t (b .loop .inv .1) (c .look-at .ensures))
 
 -- src/lib.rt:97:1
 returns : tie.Need-returns Inv-loop μ-loop
@@ -68,7 +68,7 @@ returns c =
     let b = c .before in
     let s = b .before .before in
     let l : length (s .args .t1) ≡ 64 = s .good .0 .1 .0 .1 in
-    looking-end _ _ (s .args .t1) _ _ _ _ l (b .before .least .ensures) (c .loop-test .left) (b .loop .inv .1)
+    looking-end _ _ (s .args .t1) _ _ _ _ l (b .before .smaller .ensures) (c .loop-test .left) (b .loop .inv .1)
 
 pub look-spec : {M : Type 1} → statement M
 look-spec =
@@ -76,7 +76,7 @@ look-spec =
     (tie.spec
     Inv-loop
     μ-loop
-    least-requires
+    smaller-requires
     loop-holds
     mul-look-at
     array-copy-out-look-at

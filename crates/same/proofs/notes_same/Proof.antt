@@ -11,7 +11,7 @@ use Rattle.same.proofs.notes_same.Statement.{statement}
 use Rattle.same.proofs.notes_same.Tie as tie
 use Rattle.same.proofs.notes_same.Reads as reads
 use Rattle.same.proofs.notes_same.Lts as lts
-use Rattle.same.proofs.least.Reads as least-reads
+use Rattle.lists.proofs.smaller.Reads as smaller-reads
 use Rattle.same.proofs.note_same.Reads as note-same-reads
 
 abbrev Inv-loop : tie.InvT-loop
@@ -21,8 +21,8 @@ abbrev μ-loop : tie.MeasureT-loop
 μ-loop n a b end i₀ i = end - i
 
 -- src/lib.rt:158:9
-least-requires : tie.Need-least-requires Inv-loop μ-loop
-least-requires c κs = search needs
+smaller-requires : tie.Need-smaller-requires Inv-loop μ-loop
+smaller-requires c κs = search needs
 
 -- src/lib.rt:160:5
 loop-holds : tie.Need-loop-holds Inv-loop μ-loop
@@ -45,7 +45,7 @@ returns : tie.Need-returns Inv-loop μ-loop
 returns c =
     let b = c .before .before .before .before .before in
     let s = b .before .before in
-    let e = b .before .least in
+    let e = b .before .smaller in
     first-differ numberOfNote 256 (s .args .t1) (s .args .t2) (s .good .0 .1 .0 .1) (s .good .1 .0 .1 .0 .1) (s .args .n) (e .result) (e .ensures) (b .loop .i) _ (c .before .before .before .before .loop-test .taken) (c .before .note-same .ensures .no (not-true _ (c .if1 .taken)))
 
 -- src/lib.rt:164:9
@@ -61,7 +61,7 @@ loop-again : tie.Need-loop-again Inv-loop μ-loop
 loop-again c =
     let b = c .before .before .before .before .before in
     let s = b .before .before in
-    let e = b .before .least in
+    let e = b .before .smaller in
     (omega arith, first-more numberOfNote 256 (s .args .t1) (s .args .t2) (s .good .0 .1 .0 .1) (s .good .1 .0 .1 .0 .1) (s .args .n) (e .result) (e .ensures) (b .loop .i) _ (c .before .before .before .before .loop-test .taken) (b .loop .inv .1) (c .before .note-same .ensures .yes (not-false _ (c .if1 .left))))
 
 -- src/lib.rt:155:1
@@ -69,7 +69,7 @@ returns-2 : tie.Need-returns-2 Inv-loop μ-loop
 returns-2 c =
     let b = c .before in
     let s = b .before .before in
-    let e = b .before .least in
+    let e = b .before .smaller in
     let i = b .loop .inv .0 in
     let t = c .loop-test .left in
     first-all numberOfNote 256 (s .args .t1) (s .args .t2) (s .good .0 .1 .0 .1) (s .good .1 .0 .1 .0 .1) (s .args .n) (e .result) (e .ensures) (b .loop .i) (omega arith) (b .loop .inv .1)
@@ -80,7 +80,7 @@ notes-same-spec =
     (tie.spec
     Inv-loop
     μ-loop
-    least-requires
+    smaller-requires
     loop-holds
     array-copy-out-note-same
     array-copy-out-note-same-2

@@ -11,8 +11,8 @@ Inv-loop s n sum₀ i₀ sum i = i ≤ n
 abbrev μ-loop : tie.MeasureT-loop
 μ-loop s n sum₀ i₀ sum i = n - i
 
-least-requires : tie.Need-least-requires Inv-loop μ-loop
-least-requires c κs = search needs
+smaller-requires : tie.Need-smaller-requires Inv-loop μ-loop
+smaller-requires c κs = search needs
 
 loop-holds : tie.Need-loop-holds Inv-loop μ-loop
 loop-holds c = search needs
@@ -44,7 +44,7 @@ table-spec =
     (tie.spec
     Inv-loop
     μ-loop
-    least-requires
+    smaller-requires
     loop-holds
     mul-voice
     element-copy-out-voice
