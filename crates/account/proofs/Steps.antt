@@ -1,23 +1,21 @@
 -- A call's contract is a step of its view, and a run of such calls is the model's run.
 use mathlib.Core.Path.{_≡_, refl, ap, sym, _∙_}
-use mathlib.Core.Bool.{Bool, true, false, cond}
-use mathlib.Core.List.{List, [], _∷_, _++_, flatMap, List·Nodup, Perm}
-use Prim.Native.Nat.{ℕ}
+use mathlib.Core.Bool.{Bool, true, false}
+use mathlib.Core.List.{List, [], _∷_, _++_, List·Nodup, Perm}
 use borrow.Author.Tests.{eqb-true, eqb-false}
 use lib.Dec.{eqb}
-use Rattle.lists.specs.Choose.{cond-true, cond-false}
-use Rattle.design.specs.declared.InstrumentDesign.{InstrumentDesign}
+use Rattle.lists.specs.Choose.{cond-true}
 use Rattle.design.specs.Accepted.{isAccepted}
 use Rattle.model.specs.Types.{Model, Call, Reply}
-use Rattle.model.specs.Step.{refusal, accepted, refusedWith, step}
+use Rattle.model.specs.Step.{refusal, step}
 use Rattle.model.specs.Start.{fresh, zeroState}
-use Rattle.model.specs.Runs.{after, replies, issuedBy, silentBy, takenBy, endedBy, table}
+use Rattle.model.specs.Runs.{after, replies, table}
 use Rattle.model.specs.Account.{Account, HandleAccount}
 use Rattle.model.proofs.Runs.{handle-account}
 use Rattle.instrument.specs.declared.Instrument.{Instrument}
 use Rattle.instrument.specs.View.{view, counted}
-use Rattle.instrument.specs.Calls.{refusalOf, replyTo, StartAs, StepAs}
-use Rattle.account.specs.Code.{Ran, RunFrom, RunFrom.none, RunFrom.then, callsOf, repliesOf, lastOf, issuedIn, silentIn, takenIn, endedIn, Accounted, CallsAreSteps}
+use Rattle.instrument.specs.Calls.{refusalOf, replyTo, StepAs}
+use Rattle.account.specs.Code.{Ran, RunFrom, RunFrom.none, RunFrom.then, callsOf, repliesOf, lastOf, issuedIn, silentIn, takenIn, endedIn, CallsAreSteps}
 
 -- a refused step leaves the model
 refused-stays : (m : Model) (c : Call) → eqb (refusal m c) 0 ≡ false → step m c .model ≡ m

@@ -1,5 +1,5 @@
 -- What a design must be (document 01, rows 2 and 3 of the table of refusals, and "Limits").
-use mathlib.Core.Bool.{Bool, true, false, not, _&&_, _||_, cond}
+use mathlib.Core.Bool.{Bool, not, _&&_, _||_, cond}
 use Prim.Native.Nat.{ℕ}
 use lib.Dec.{leb, eqb}
 use lib.Ieee.{Float, lt}

@@ -1,5 +1,5 @@
 -- A new envelope (document 01, "envelope.rs", its second and third sentence).
-use mathlib.Core.Bool.{Bool, true, false, not, _&&_, cond}
+use mathlib.Core.Bool.{Bool, not, _&&_, cond}
 use Prim.Native.Nat.{ℕ}
 use lib.Dec.{leb}
 use lib.Ieee.{Float, binary32, ofInt}

@@ -1,5 +1,5 @@
 -- The tick (document 01, "envelope.rs": as in `EnvGen::tick`, each operation rounded once, in its order).
-use mathlib.Core.Bool.{Bool, true, false, cond}
+use mathlib.Core.Bool.{cond}
 use lib.Ieee.{Float, binary32, add, sub, mul, div, le}
 use Rattle.float32.specs.Numbers.{zero, one}
 use Rattle.envelope.specs.declared.EnvGen.{EnvGen}

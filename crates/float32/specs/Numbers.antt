@@ -1,7 +1,7 @@
 -- The helpers on floats, as document 01 fixes them ("Forms in this Rust that stand in the way"; "Copies, Plan and Mix", the sentence on two zeros).
 -- Each is total: a float is a number with its sign, an infinity or the one NaN.
-use mathlib.Core.Bool.{Bool, true, false, not, _&&_, cond}
-use Prim.Native.Nat.{ℕ, _*_, _/_}
+use mathlib.Core.Bool.{not, _&&_, cond}
+use Prim.Native.Nat.{_*_, _/_}
 use lib.Ieee.{Float, nan, inf, fin, binary32, ofBits, isNan, eq, lt, sub, round, up, down}
 
 abbrev pub zero : Float

@@ -1,6 +1,6 @@
 -- The order of levels (document 01, "mod.rs": quietest is by level in `total_cmp` order; a NaN counts above every number, all NaNs alike).
 use mathlib.Core.Bool.{Bool, true, false}
-use Prim.Native.Nat.{ℕ, _*_}
+use Prim.Native.Nat.{_*_}
 use lib.Dec.{ltb}
 use lib.Ieee.{Float, nan, inf, fin, up, down}
 

@@ -1,7 +1,7 @@
 -- What ties the order of levels to IEEE 754's comparison, so that a reader need not take `below` on trust.
 use mathlib.Core.Path.{_≡_}
-use mathlib.Core.Bool.{Bool, true, false}
-use lib.Ieee.{Float, nan, binary32, ofBits, isNan, lt, eq}
+use mathlib.Core.Bool.{true, false}
+use lib.Ieee.{Float, nan, binary32, ofBits, isNan, lt}
 use Rattle.float32.specs.Numbers.{zero}
 use Rattle.float32.specs.Order.{below}
 use Rattle.lists.specs.Least.{Ordered}

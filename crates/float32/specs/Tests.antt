@@ -1,5 +1,5 @@
 -- How the code's comparisons decide what the definitions ask.
-use mathlib.Core.Path.{_≡_, refl, ap, sym, _∙_}
+use mathlib.Core.Path.{_≡_, refl}
 use mathlib.Core.Bool.{Bool, true, false, not, _&&_, _||_, Bool·beq}
 use Prim.Native.Nat.{ℕ, _*_}
 use borrow.Author.Tests.{eq-eqb}

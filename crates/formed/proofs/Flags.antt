@@ -1,10 +1,10 @@
 -- A flag for each note: what the flags say of the first i held notes.
 use mathlib.Core.Path.{_≡_, refl, ap, sym, _∙_}
-use mathlib.Core.Bool.{Bool, true, false, not, _&&_}
+use mathlib.Core.Bool.{Bool, true, false}
 use mathlib.Core.List.{List, [], _∷_, _++_, map, map-append}
-use Prim.Native.Nat.{ℕ, _+_, _≤_, _<_, min}
+use Prim.Native.Nat.{ℕ, _+_, _<_, min}
 use native.Mathlib.Omega.{arith}
-use borrow.Author.Tests.{le-leb, lt-leb, leb-true, leb-false, eq-eqb, eqb-true, ne-eqb, eqb-false}
+use borrow.Author.Tests.{le-leb, leb-true, leb-false, eq-eqb, eqb-true, ne-eqb, eqb-false}
 use lib.Dec.{leb, eqb}
 use lib.ListN.{length, take, drop, getD, set, replicate, length-set, getD-replicate, take-append-drop}
 use lib.Seq.{getD-set-same, getD-set-other, take-take}

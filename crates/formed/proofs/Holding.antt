@@ -1,16 +1,15 @@
 -- Laws for the passes over the held notes.
 use mathlib.Core.Path.{_≡_, refl, ap, sym, _∙_}
-use mathlib.Core.Bool.{Bool, true, false, not, _&&_, cond}
-use mathlib.Core.List.{List, [], _∷_, _++_, map, map-append, append-nil}
-use Prim.Native.Nat.{ℕ, zero, suc, _+_, _≤_, _<_, min}
+use mathlib.Core.Bool.{Bool, true, not}
+use mathlib.Core.List.{List, [], _∷_, _++_, map-append, append-nil}
+use Prim.Native.Nat.{ℕ, _+_, _≤_, _<_}
 use native.Mathlib.Omega.{arith}
 use native.Mathlib.Numerals.{add-one}
-use borrow.Author.Tests.{eq-eqb, ne-eqb, lt-ltb, ltb-true, eqb-true, eqb-false}
+use borrow.Author.Tests.{eq-eqb, ne-eqb, lt-ltb}
 use lib.Dec.{eqb, ltb}
-use lib.ListN.{length, take, drop, getD, set, length-map, length-take}
+use lib.ListN.{length, getD, set}
 use lib.Seq.{take-suc-set}
-use Rattle.lists.specs.Choose.{both, clash}
-use Rattle.lists.specs.Count.{oneIf, count}
+use Rattle.lists.specs.Choose.{both}
 use Rattle.lists.specs.All.{all}
 use Rattle.lists.specs.Places.{kept, kept-append, kept-none, count-kept}
 use Rattle.lists.specs.Pass.{Pass, pass-start, pass-read, pass-skip, pass-keep}

@@ -1,6 +1,6 @@
 -- What the passes over the held notes promise (document 01, "mod.rs": the note moves to the end of the held list).
 use mathlib.Core.Path.{_≡_}
-use mathlib.Core.Bool.{Bool, true}
+use mathlib.Core.Bool.{true}
 use mathlib.Core.List.{List, map}
 use Prim.Native.Nat.{ℕ, _≤_}
 use lib.Dec.{ltb}

@@ -5,8 +5,8 @@ use Prim.Native.Nat.{ℕ, zero, suc, _+_, _-_, _≤_, _<_, min}
 use native.Mathlib.Omega.{arith}
 use native.Mathlib.Numerals.{add-one}
 use native.Mathlib.Nat.{zero-add, suc-add}
-use lib.ListN.{length, take, drop, set, replicate, length-set}
-use lib.Seq.{take-suc-set, drop-set-lt, drop-drop}
+use lib.ListN.{length, set, replicate, length-set}
+use lib.Seq.{take-suc-set, drop-set-lt}
 use lib.Ieee.{Float, binary32, mul}
 use Rattle.lists.specs.Parts.{rest-on, drop-replicate}
 use Rattle.float32.specs.Numbers.{zero as +0}

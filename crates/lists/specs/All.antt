@@ -7,7 +7,7 @@ use native.Mathlib.Omega.{arith}
 use lib.ListN.{length, take, drop, getD}
 use Rattle.lists.specs.Prefix.{drop-more}
 use Rattle.lists.specs.Choose.{both}
-use Rattle.lists.specs.Count.{oneIf, count}
+use Rattle.lists.specs.Count.{count}
 use Rattle.lists.specs.Places.{kept}
 
 module _ {A : Type 0} (p : A → Bool) where

@@ -1,6 +1,6 @@
 -- The classes of MIDI bytes, and the rules of document 01 that look at a status alone.
 use Prim.Native.Nat.{ℕ}
-use mathlib.Core.Bool.{Bool, true, false, _&&_, _||_}
+use mathlib.Core.Bool.{Bool, _&&_, _||_}
 use lib.Dec.{leb, eqb}
 
 -- one of low to high, both ends included

@@ -1,5 +1,5 @@
 -- Building copy k of n (document 01, "Copies, Plan and Mix", its first three sentences).
-use mathlib.Core.Bool.{Bool, true, false, not, cond}
+use mathlib.Core.Bool.{not, cond}
 use Prim.Native.Nat.{ℕ, _-_}
 use lib.Dec.{leb}
 use lib.Ieee.{Float, binary32, ofBits, ofInt, add, sub, mul, div, eq, neg}

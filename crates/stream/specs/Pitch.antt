@@ -1,6 +1,6 @@
 -- The pitch of a copy (document 01, "Copies, Plan and Mix": the copy's record, and `glide_block`).
 use mathlib.Core.Path.{_≡_}
-use mathlib.Core.Bool.{Bool, true, false, cond}
+use mathlib.Core.Bool.{cond}
 use mathlib.Core.List.{List, [], _∷_}
 use Prim.Native.Nat.{ℕ, zero, suc}
 use lib.Ieee.{Float, binary32, ofBits, add, sub, mul, isNan}
@@ -8,7 +8,7 @@ use lib.ListN.{length}
 use Rattle.float32.specs.Numbers.{zero as +0, one, maxOf, clampOf}
 use Rattle.stream.specs.declared.UnisonCopy.{UnisonCopy}
 use Rattle.stream.specs.declared.Cutoff.{Cutoff}
-use Rattle.stream.specs.declared.Cutoff.the-variants.{Unset, Set}
+use Rattle.stream.specs.declared.Cutoff.the-variants.{Set}
 
 -- a copy with another pitch, target and glide; with another bend; with another cutoff
 unfoldable pub pitched : UnisonCopy → Float → Float → Float → UnisonCopy

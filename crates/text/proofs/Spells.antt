@@ -4,7 +4,7 @@ use mathlib.Core.List.{List, [], _∷_, _++_, append-assoc, append-nil}
 use Prim.Native.Nat.{ℕ, zero, suc, _+_, _-_, _*_, _/_, _%_, _≤_, _<_}
 use native.Mathlib.Omega.{arith}
 use lib.ListN.{length, take, drop, set, length-drop, length-set, drop-of-length-le}
-use lib.Seq.{take-all, drop-cons, drop-set-lt, getD-set-same}
+use lib.Seq.{take-all}
 use Rattle.lists.specs.Parts.{drop-set}
 use Rattle.text.specs.Text.{figure, decimalText, glyph, glyphs, wordText}
 use Rattle.text.specs.Put.{EndsIn, PutAs}

@@ -9,7 +9,6 @@ use Rattle.lists.specs.Choose.{both}
 use Rattle.lists.specs.All.{all, all-map}
 use Rattle.stream.specs.declared.UnisonCopy.{UnisonCopy}
 use Rattle.stream.specs.declared.Cutoff.the-variants.{Unset, Set}
-use Rattle.model.specs.Types as model
 use Rattle.voice.specs.View.{Seen, seen}
 use Rattle.voice.specs.declared.Voice.{Voice}
 use Rattle.voices.specs.View.{seenFirst, voicesOf, inRoom}

@@ -3,15 +3,11 @@ use Rattle.lists.specs.Choose.{and-fails, and-then}
 use Rattle.design.specs.Accepted.{lfoActive}
 use Rattle.design.proofs.lfo_active.Statement.{statement}
 use Rattle.design.proofs.lfo_active.Tie as tie
-use Rattle.design.proofs.lfo_active.Reads as reads
-use Rattle.design.proofs.lfo_active.Lts as lts
 
--- src/lib.rt:33:1
 returns : tie.Need-returns
 unfolding lfoActive
 returns c = and-then _ _ _ (c .if1 .taken) refl
 
--- src/lib.rt:33:1
 returns-2 : tie.Need-returns-2
 unfolding lfoActive
 returns-2 c = and-fails _ _ (c .if1 .left)

@@ -5,35 +5,26 @@ use borrow.Author.Tests.{not-true, not-false}
 use borrow.Author.Needs.{needs}
 use Rattle.envelope.proofs.all_finite.Statement.{statement}
 use Rattle.envelope.proofs.all_finite.Tie as tie
-use Rattle.envelope.proofs.all_finite.Reads as reads
-use Rattle.envelope.proofs.all_finite.Lts as lts
-use Rattle.float32.proofs.is_finite.Reads as is-finite-reads
 
--- src/lib.rt:55:9
 is-finite-requires : tie.Need-is-finite-requires
 is-finite-requires c κs = search needs
 
--- src/lib.rt:56:9
 returns : tie.Need-returns
 unfolding allFinite
 returns c = and-fails _ _ (sym (c .before .is-finite .ensures) ∙ not-true _ (c .if1 .taken))
 
--- src/lib.rt:58:9
 is-finite-requires-2 : tie.Need-is-finite-requires-2
 is-finite-requires-2 c κs = search needs
 
--- src/lib.rt:59:9
 returns-2 : tie.Need-returns-2
 unfolding allFinite
 returns-2 c =
     let b = c .before .before in
     and-then _ _ _ (sym (b .before .is-finite .ensures) ∙ not-false _ (b .if1 .left)) (and-fails _ _ (sym (c .before .is-finite2 .ensures) ∙ not-true _ (c .if2 .taken)))
 
--- src/lib.rt:61:9
 is-finite-requires-3 : tie.Need-is-finite-requires-3
 is-finite-requires-3 c κs = search needs
 
--- src/lib.rt:62:9
 returns-3 : tie.Need-returns-3
 unfolding allFinite
 returns-3 c =
@@ -42,11 +33,9 @@ returns-3 c =
     and-then _ _ _ (sym (a .before .is-finite .ensures) ∙ not-false _ (a .if1 .left))
     (and-then _ _ _ (sym (b .before .is-finite2 .ensures) ∙ not-false _ (b .if2 .left)) (and-fails _ _ (sym (c .before .is-finite3 .ensures) ∙ not-true _ (c .if3 .taken))))
 
--- src/lib.rt:64:5
 is-finite-requires-4 : tie.Need-is-finite-requires-4
 is-finite-requires-4 c κs = search needs
 
--- src/lib.rt:52:1
 returns-4 : tie.Need-returns-4
 unfolding allFinite
 returns-4 c =

@@ -1,14 +1,10 @@
 use Rattle.envelope.proofs.Starts.{rate-low, rate-high}
 use Rattle.envelope.proofs.rate_fits.Statement.{statement}
 use Rattle.envelope.proofs.rate_fits.Tie as tie
-use Rattle.envelope.proofs.rate_fits.Reads as reads
-use Rattle.envelope.proofs.rate_fits.Lts as lts
 
--- src/lib.rt:46:9
 returns : tie.Need-returns
 returns c = rate-low _ (c .if1 .taken)
 
--- src/lib.rt:42:1
 returns-2 : tie.Need-returns-2
 returns-2 c = rate-high _ (c .if1 .left)
 

@@ -1,9 +1,9 @@
-use mathlib.Core.Path.{_≡_, refl, sym}
-use Prim.Native.Nat.{ℕ, zero, suc, _≤_, _<_}
+use mathlib.Core.Path.{refl, sym}
+use Prim.Native.Nat.{_<_}
 use native.Mathlib.Omega.{arith}
 use borrow.Author.Needs.{needs}
-use lib.Ieee.{Float, nan, div, ofBits, binary32}
-use lib.ListN.{length, getD, List·getD-eq-default}
+use lib.Ieee.{nan, div, ofBits}
+use lib.ListN.{List·getD-eq-default}
 use Rattle.float32.specs.Root.{rootOf, roots}
 use Rattle.float32.proofs.root.Statement.{statement}
 use Rattle.float32.proofs.root.Tie as tie

@@ -6,16 +6,12 @@ use native.Mathlib.Omega.{arith}
 use borrow.Author.Needs.{needs}
 use borrow.Author.Count.{below-none, below-more}
 use lib.ListN.{length, getD}
-use Rattle.lists.specs.Perms.{times, distinct}
+use Rattle.lists.specs.Perms.{times}
 use Rattle.voices.specs.View.{voicesOf, seenFirst}
 use Rattle.formed.proofs.Checks.{handlesFirst}
 use Rattle.formed.proofs.Handles.{each-distinct}
 use Rattle.formed.proofs.handles_distinct.Statement.{statement}
 use Rattle.formed.proofs.handles_distinct.Tie as tie
-use Rattle.formed.proofs.handles_distinct.Reads as reads
-use Rattle.formed.proofs.handles_distinct.Lts as lts
-use Rattle.lists.proofs.smaller.Reads as smaller-reads
-use Rattle.voices.proofs.count_of.Reads as count-of-reads
 
 abbrev Inv-loop : tie.InvT-loop
 Inv-loop n vs end i₀ i = (i ≤ end) × ((j : ℕ) → j < i → times (getD (handlesFirst n vs) j 0) (handlesFirst n vs) ≤ 1)
@@ -23,41 +19,32 @@ Inv-loop n vs end i₀ i = (i ≤ end) × ((j : ℕ) → j < i → times (getD (
 abbrev μ-loop : tie.MeasureT-loop
 μ-loop n vs end i₀ i = end - i
 
--- src/lib.rt:163:9
 smaller-requires : tie.Need-smaller-requires Inv-loop μ-loop
 smaller-requires c κs = search needs
 
--- src/lib.rt:165:5
 loop-holds : tie.Need-loop-holds Inv-loop μ-loop
 loop-holds c = (omega arith, λ j p. below-none (λ (j : ℕ). times (getD (handlesFirst (c .before .args .n) (c .before .args .t1)) j 0) (handlesFirst (c .before .args .n) (c .before .args .t1)) ≤ 1) j p)
 
--- src/lib.rt:166:17
 mul-v : tie.Need-mul-v Inv-loop μ-loop
 mul-v c = omega arith
 
--- src/lib.rt:166:17
 array-copy-out-v : tie.Need-array-copy-out-v Inv-loop μ-loop
 array-copy-out-v c = search needs
 
--- src/lib.rt:167:16
 count-of-requires : tie.Need-count-of-requires Inv-loop μ-loop
 count-of-requires c κs = search needs
 
--- src/lib.rt:168:13
 returns : tie.Need-returns Inv-loop μ-loop
 returns c =
     let s = c .before .before .before .before .before .before in
     counted-twice (voicesOf (seenFirst (s .args .n) (s .args .t1))) _ _ (c .before .count-of .ensures) (c .if1 .taken)
 
--- src/lib.rt:170:9
 add-i : tie.Need-add-i Inv-loop μ-loop
 add-i c = omega arith
 
--- src/lib.rt:165:5
 loop-less : tie.Need-loop-less Inv-loop μ-loop
 loop-less c = omega arith
 
--- src/lib.rt:165:5
 loop-again : tie.Need-loop-again Inv-loop μ-loop
 loop-again c =
     let a = c .before .before .before in
@@ -70,7 +57,6 @@ loop-again c =
           (counted-once (voicesOf (seenFirst (s .args .n) (s .args .t1))) _ _ _ (handle-of (s .args .t1) (s .args .n) (b .before .smaller .result) (b .loop .i) _ l q (a .loop-test .taken)) (c .before .count-of .ensures) (c .if1 .left)),
     )
 
--- src/lib.rt:157:1
 returns-2 : tie.Need-returns-2 Inv-loop μ-loop
 returns-2 c =
     let b = c .before in

@@ -1,20 +1,13 @@
-use mathlib.Core.Path.{_≡_, refl, ap, sym, _∙_}
-use mathlib.Core.Bool.{Bool, true, false}
-use mathlib.Core.List.{List}
-use Prim.Native.Nat.{ℕ, _≤_, _<_, _-_, _+_, min}
+use mathlib.Core.Path.{_≡_, ap, sym, _∙_}
+use Prim.Native.Nat.{ℕ, _≤_, _-_}
 use native.Mathlib.Omega.{arith}
-use lib.ListN.{length, take, getD}
+use lib.ListN.{length}
 use borrow.Author.Needs.{needs}
 use Rattle.lists.specs.Perms.{distinct}
 use Rattle.formed.specs.Held.{heldFirst}
 use Rattle.formed.proofs.Flags.{Flagged, flags-start, flags-more, flags-fail, held-least}
 use Rattle.formed.proofs.held_distinct.Statement.{statement}
 use Rattle.formed.proofs.held_distinct.Tie as tie
-use Rattle.formed.proofs.held_distinct.Reads as reads
-use Rattle.formed.proofs.held_distinct.Lts as lts
-use Rattle.lists.proofs.smaller.Reads as smaller-reads
-use Rattle.formed.proofs.no_flags.Reads as no-flags-reads
-use Rattle.formed.proofs.place.Reads as place-reads
 
 abbrev Inv-loop : tie.InvT-loop
 Inv-loop n held end seen₀ i₀ seen i = (i ≤ end) × Flagged held i seen
@@ -22,31 +15,24 @@ Inv-loop n held end seen₀ i₀ seen i = (i ≤ end) × Flagged held i seen
 abbrev μ-loop : tie.MeasureT-loop
 μ-loop n held end seen₀ i₀ seen i = end - i
 
--- src/lib.rt:136:9
 smaller-requires : tie.Need-smaller-requires Inv-loop μ-loop
 smaller-requires c κs = search needs
 
--- src/lib.rt:137:20
 no-flags-requires : tie.Need-no-flags-requires Inv-loop μ-loop
 no-flags-requires c κs = search needs
 
--- src/lib.rt:139:5
 loop-holds : tie.Need-loop-holds Inv-loop μ-loop
 loop-holds c = (omega arith, flags-start (c .before .before .args .t1) (c .no-flags .result) (c .no-flags .ensures))
 
--- src/lib.rt:140:23
 array-copy-out-place : tie.Need-array-copy-out-place Inv-loop μ-loop
 array-copy-out-place c = search needs
 
--- src/lib.rt:140:13
 place-requires : tie.Need-place-requires Inv-loop μ-loop
 place-requires c κs = search needs
 
--- src/lib.rt:141:12
 array-read-if1 : tie.Need-array-read-if1 Inv-loop μ-loop
 array-read-if1 c = search needs
 
--- src/lib.rt:142:13
 returns : tie.Need-returns Inv-loop μ-loop
 returns c =
     let a = c .before .before .before in
@@ -59,19 +45,15 @@ returns c =
     sym (ap distinct (sym (held-least (s .args .n) (s .args .t1) l (b .before .before .smaller .result) m))
     ∙ flags-fail (s .args .t1) (b .loop .i) _ (b .loop .seen) (omega arith) (b .loop .inv .1) (c .before .place .result) (c .before .place .ensures .0) (c .before .place .ensures .1) (b .before .before .smaller .result) t (c .if1 .taken))
 
--- src/lib.rt:144:9
 array-write-seen : tie.Need-array-write-seen Inv-loop μ-loop
 array-write-seen c = search needs
 
--- src/lib.rt:145:9
 add-i : tie.Need-add-i Inv-loop μ-loop
 add-i c = omega arith
 
--- src/lib.rt:139:5
 loop-less : tie.Need-loop-less Inv-loop μ-loop
 loop-less c = omega arith
 
--- src/lib.rt:139:5
 loop-again : tie.Need-loop-again Inv-loop μ-loop
 loop-again c =
     let a = c .before .before .before in
@@ -83,7 +65,6 @@ loop-again c =
     let t = a .loop-test .taken in
     (omega arith, flags-more (s .args .t1) (b .loop .i) _ (b .loop .seen) (omega arith) (b .loop .inv .1) (c .before .place .result) (c .before .place .ensures .0) (c .before .place .ensures .1) (c .if1 .left))
 
--- src/lib.rt:133:1
 returns-2 : tie.Need-returns-2 Inv-loop μ-loop
 returns-2 c =
     let b = c .before in

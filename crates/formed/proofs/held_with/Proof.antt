@@ -1,5 +1,5 @@
-use mathlib.Core.Path.{_≡_, ap, sym, _∙_}
-use Prim.Native.Nat.{_<_, _≤_}
+use mathlib.Core.Path.{_≡_}
+use Prim.Native.Nat.{_<_}
 use native.Mathlib.Omega.{arith}
 use lib.ListN.{length}
 use Rattle.formed.specs.Held.{heldFirst}
@@ -8,23 +8,16 @@ use Rattle.formed.proofs.Sizes.{notes-long}
 use borrow.Author.Needs.{needs}
 use Rattle.formed.proofs.held_with.Statement.{statement}
 use Rattle.formed.proofs.held_with.Tie as tie
-use Rattle.formed.proofs.held_with.Reads as reads
-use Rattle.formed.proofs.held_with.Lts as lts
-use Rattle.formed.proofs.held_without.Reads as held-without-reads
 
--- src/lib.rt:180:9
 held-without-requires : tie.Need-held-without-requires
 held-without-requires c κs = search needs
 
--- src/lib.rt:184:9
 array-set-from-notes : tie.Need-array-set-from-notes
 array-set-from-notes c = search needs
 
--- src/lib.rt:187:20
 add-t12 : tie.Need-add-t12
 add-t12 c = search needs
 
--- src/lib.rt:185:9
 returns : tie.Need-returns
 returns c =
     let b = c .before .before in
@@ -33,7 +26,6 @@ returns c =
     let t = c .if1 .taken in
     record { notes = λ once. held-put (b .held-without .result .notes) (b .held-without .result .count) (b .before .args .note) _ (omega arith) (r .notes); room = omega arith }
 
--- src/lib.rt:177:1
 returns-2 : tie.Need-returns-2
 returns-2 c =
     let b = c .before .before in

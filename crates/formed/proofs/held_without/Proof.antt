@@ -1,8 +1,8 @@
 use Rattle.model.specs.Notes.{heldWithout}
 use Rattle.formed.specs.Held.{heldFirst}
-use mathlib.Core.Path.{_≡_, refl, ap, sym, _∙_}
+use mathlib.Core.Path.{_≡_, ap, sym, _∙_}
 use mathlib.Core.Logic.{⊎-elim}
-use Prim.Native.Nat.{ℕ, _≤_, _<_, _-_, _+_, min}
+use Prim.Native.Nat.{_≤_, _-_}
 use native.Mathlib.Omega.{arith}
 use lib.ListN.{length}
 use borrow.Author.Needs.{needs}
@@ -10,10 +10,6 @@ use Rattle.formed.proofs.Flags.{held-least}
 use Rattle.formed.proofs.Holding.{Keeping, keeping-start, keeping-more, keeping-skip}
 use Rattle.formed.proofs.held_without.Statement.{statement}
 use Rattle.formed.proofs.held_without.Tie as tie
-use Rattle.formed.proofs.held_without.Reads as reads
-use Rattle.formed.proofs.held_without.Lts as lts
-use Rattle.lists.proofs.smaller.Reads as smaller-reads
-use Rattle.formed.proofs.place.Reads as place-reads
 
 abbrev Inv-loop : tie.InvT-loop
 Inv-loop n note end notes₀ w₀ i₀ notes w i = (i ≤ end) × Keeping notes₀ note w i notes
@@ -21,39 +17,30 @@ Inv-loop n note end notes₀ w₀ i₀ notes w i = (i ≤ end) × Keeping notes�
 abbrev μ-loop : tie.MeasureT-loop
 μ-loop n note end notes₀ w₀ i₀ notes w i = end - i
 
--- src/lib.rt:161:9
 smaller-requires : tie.Need-smaller-requires Inv-loop μ-loop
 smaller-requires c κs = search needs
 
--- src/lib.rt:165:5
 loop-holds : tie.Need-loop-holds Inv-loop μ-loop
 loop-holds c = (omega arith, keeping-start (c .before .args .held) (c .before .args .note))
 
--- src/lib.rt:166:17
 array-copy-out-x : tie.Need-array-copy-out-x Inv-loop μ-loop
 array-copy-out-x c = search needs
 
--- src/lib.rt:167:12
 place-requires : tie.Need-place-requires Inv-loop μ-loop
 place-requires c κs = search needs
 
--- src/lib.rt:168:13
 array-set-from-notes : tie.Need-array-set-from-notes Inv-loop μ-loop
 array-set-from-notes c = search needs
 
--- src/lib.rt:169:13
 add-w : tie.Need-add-w Inv-loop μ-loop
 add-w c = omega arith
 
--- src/lib.rt:171:9
 add-i : tie.Need-add-i Inv-loop μ-loop
 add-i c = omega arith
 
--- src/lib.rt:165:5
 loop-less : tie.Need-loop-less Inv-loop μ-loop
 loop-less c = omega arith
 
--- src/lib.rt:165:5
 loop-again : tie.Need-loop-again Inv-loop μ-loop
 loop-again c =
     let b = c .before .before .before .before in
@@ -67,7 +54,6 @@ loop-again c =
     (λ w. (omega arith, rw (w .1, w .2) (keeping-skip (s .args .held) (s .args .note) (b .loop .w) (b .loop .i) (b .loop .notes) _ (omega arith) (b .loop .inv .1) (sym (p .0) ∙ w .0 .left))))
     (c .if1 .came)
 
--- src/lib.rt:158:1
 returns : tie.Need-returns Inv-loop μ-loop
 returns c =
     let b = c .before in

@@ -7,10 +7,6 @@ use Rattle.formed.specs.Check.{lookStart}
 use Rattle.formed.proofs.Looking.{Looking, looking-start, looking-more, looking-end}
 use Rattle.formed.proofs.look.Statement.{statement}
 use Rattle.formed.proofs.look.Tie as tie
-use Rattle.formed.proofs.look.Reads as reads
-use Rattle.formed.proofs.look.Lts as lts
-use Rattle.lists.proofs.smaller.Reads as smaller-reads
-use Rattle.formed.proofs.look_at.Reads as look-at-reads
 
 abbrev Inv-loop : tie.InvT-loop
 Inv-loop n next copies vs end looked₀ i₀ looked i = (i ≤ end) × Looking next copies vs end looked i
@@ -18,24 +14,19 @@ Inv-loop n next copies vs end looked₀ i₀ looked i = (i ≤ end) × Looking n
 abbrev μ-loop : tie.MeasureT-loop
 μ-loop n next copies vs end looked₀ i₀ looked i = end - i
 
--- src/lib.rt:100:9
 smaller-requires : tie.Need-smaller-requires Inv-loop μ-loop
 smaller-requires c κs = search needs
 
--- src/lib.rt:108:5
 loop-holds : tie.Need-loop-holds Inv-loop μ-loop
 unfolding lookStart
 loop-holds c = (omega arith, looking-start _ _ _ _ _ refl)
 
--- src/lib.rt:109:34
 mul-look-at : tie.Need-mul-look-at Inv-loop μ-loop
 mul-look-at c = omega arith
 
--- src/lib.rt:109:34
 array-copy-out-look-at : tie.Need-array-copy-out-look-at Inv-loop μ-loop
 array-copy-out-look-at c = search needs
 
--- src/lib.rt:109:9
 look-at-requires : tie.Need-look-at-requires Inv-loop μ-loop
 look-at-requires c κs =
     let b = c .before .before in
@@ -44,15 +35,12 @@ look-at-requires c κs =
     let t = c .before .loop-test .taken in
     omega arith
 
--- src/lib.rt:110:9
 add-i : tie.Need-add-i Inv-loop μ-loop
 add-i c = omega arith
 
--- src/lib.rt:108:5
 loop-less : tie.Need-loop-less Inv-loop μ-loop
 loop-less c = omega arith
 
--- src/lib.rt:108:5
 loop-again : tie.Need-loop-again Inv-loop μ-loop
 loop-again c =
     let b = c .before .before .before in
@@ -62,7 +50,6 @@ loop-again c =
     let t = c .before .before .loop-test .taken in
     (omega arith, looking-more _ _ (s .args .t1) (b .before .smaller .result) _ _ _ _ (omega arith) t (b .loop .inv .1) (c .look-at .ensures))
 
--- src/lib.rt:97:1
 returns : tie.Need-returns Inv-loop μ-loop
 returns c =
     let b = c .before in

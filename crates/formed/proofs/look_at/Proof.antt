@@ -5,21 +5,13 @@ use Rattle.formed.proofs.Looking.{look-one}
 use borrow.Author.Needs.{needs}
 use Rattle.formed.proofs.look_at.Statement.{statement}
 use Rattle.formed.proofs.look_at.Tie as tie
-use Rattle.formed.proofs.look_at.Reads as reads
-use Rattle.formed.proofs.look_at.Lts as lts
-use Rattle.formed.proofs.both.Reads as both-reads
-use Rattle.formed.proofs.one_if.Reads as one-if-reads
-use Rattle.formed.proofs.voice_fits.Reads as voice-fits-reads
 
--- src/lib.rt:86:9
 voice-fits-requires : tie.Need-voice-fits-requires
 voice-fits-requires c κs = search needs
 
--- src/lib.rt:87:38
 one-if-requires : tie.Need-one-if-requires
 one-if-requires c κs = search needs
 
--- src/lib.rt:87:20
 add-sounding : tie.Need-add-sounding
 add-sounding c =
     let s = c .before .before .before .before in
@@ -28,15 +20,12 @@ add-sounding c =
     let one = oneIf-le (not (s .args .v .releasing)) in
     omega (arith, few, e, one)
 
--- src/lib.rt:90:14
 both-requires : tie.Need-both-requires
 both-requires c κs = search needs
 
--- src/lib.rt:91:15
 both-requires-2 : tie.Need-both-requires-2
 both-requires-2 c κs = search needs
 
--- src/lib.rt:82:1
 returns : tie.Need-returns
 returns c =
     let b = c .before .before .before in

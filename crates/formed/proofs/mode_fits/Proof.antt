@@ -4,23 +4,17 @@ use Rattle.formed.proofs.Handles.{mode-is}
 use borrow.Author.Needs.{needs}
 use Rattle.formed.proofs.mode_fits.Statement.{statement}
 use Rattle.formed.proofs.mode_fits.Tie as tie
-use Rattle.formed.proofs.mode_fits.Reads as reads
-use Rattle.formed.proofs.mode_fits.Lts as lts
 
--- src/lib.rt:213:27
 enum-told : tie.Need-enum-told
 enum-told c = search needs
 
--- src/lib.rt:214:41
 enum-told-2 : tie.Need-enum-told-2
 enum-told-2 c = search needs
 
--- src/lib.rt:209:1
 returns : tie.Need-returns
 unfolding modeAgrees
 returns c = mode-is _ _ _ _ _ (c .enum-told .given .1) refl
 
--- src/lib.rt:209:1
 returns-2 : tie.Need-returns-2
 unfolding modeAgrees
 returns-2 c = mode-is _ _ _ _ _ (c .enum-told2 .given .1) refl

@@ -2,26 +2,19 @@ use Rattle.formed.proofs.Checks.{agrees, agrees-idle, agrees-held, agre
 use borrow.Author.Needs.{needs}
 use Rattle.formed.proofs.stage_fits.Statement.{statement}
 use Rattle.formed.proofs.stage_fits.Tie as tie
-use Rattle.formed.proofs.stage_fits.Reads as reads
-use Rattle.formed.proofs.stage_fits.Lts as lts
 
--- src/lib.rt:34:24
 enum-told : tie.Need-enum-told
 enum-told c = search needs
 
--- src/lib.rt:35:27
 enum-told-2 : tie.Need-enum-told-2
 enum-told-2 c = search needs
 
--- src/lib.rt:30:1
 returns : tie.Need-returns
 returns c = agrees _ _ _ (agrees-idle _) _ (c .enum-told .given .1)
 
--- src/lib.rt:30:1
 returns-2 : tie.Need-returns-2
 returns-2 c = agrees _ _ _ (agrees-release _) _ (c .enum-told2 .given .1)
 
--- src/lib.rt:30:1
 returns-3 : tie.Need-returns-3
 returns-3 c = agrees-held _ _ (c .match .keys3)
 

@@ -9,48 +9,33 @@ use Rattle.formed.proofs.Tables.{tables-1, tables-2, tables-3, tables-4
 use borrow.Author.Needs.{needs}
 use Rattle.formed.proofs.tables_fit.Statement.{statement}
 use Rattle.formed.proofs.tables_fit.Tie as tie
-use Rattle.formed.proofs.tables_fit.Reads as reads
-use Rattle.formed.proofs.tables_fit.Lts as lts
-use Rattle.design.proofs.InstrumentDesign.copies.Reads as copies-reads
-use Rattle.formed.proofs.handles_distinct.Reads as handles-distinct-reads
-use Rattle.formed.proofs.held_distinct.Reads as held-distinct-reads
-use Rattle.formed.proofs.look.Reads as look-reads
-use Rattle.formed.proofs.mode_fits.Reads as mode-fits-reads
 
--- src/lib.rt:187:36
 copies-requires : tie.Need-copies-requires
 copies-requires c κs = search needs
 
--- src/lib.rt:187:36
 cast-look : tie.Need-cast-look
 cast-look c = search needs
 
--- src/lib.rt:187:9
 look-requires : tie.Need-look-requires
 look-requires c κs = search needs
 
--- src/lib.rt:188:9
 cast-if1 : tie.Need-cast-if1
 cast-if1 c = search needs
 
--- src/lib.rt:189:9
 returns : tie.Need-returns
 returns c =
     let l = c .before .before .before in
     tables-1 _ _ _ _ _ _ _ (l .before .copies .ensures) _ (l .look .ensures) (c .if1 .taken)
 
--- src/lib.rt:191:9
 mode-fits-requires : tie.Need-mode-fits-requires
 mode-fits-requires c κs = search needs
 
--- src/lib.rt:192:9
 returns-2 : tie.Need-returns-2
 returns-2 c =
     let d = c .before .before in
     let l = d .before .before .before in
     tables-2 _ _ _ _ _ _ _ (l .before .copies .ensures) _ (l .look .ensures) (d .if1 .left) _ (c .before .mode-fits .ensures) (not-true _ (c .if2 .taken))
 
--- src/lib.rt:195:9
 returns-3 : tie.Need-returns-3
 returns-3 c =
     let f = c .before .before in
@@ -58,7 +43,6 @@ returns-3 c =
     let l = d .before .before .before in
     tables-3 _ _ _ _ _ _ _ (l .before .copies .ensures) _ (l .look .ensures) (d .if1 .left) _ (f .before .mode-fits .ensures) (not-false _ (f .if2 .left)) (not-true _ (c .if3 .taken))
 
--- src/lib.rt:197:47
 handles-distinct-requires : tie.Need-handles-distinct-requires
 handles-distinct-requires c κs = search needs
 
@@ -73,7 +57,6 @@ once-is j =
     (λ w. w .2 ∙ w .1 .ensures)
     (j .if4 .came)
 
--- src/lib.rt:199:9
 returns-4 : tie.Need-returns-4
 returns-4 c =
     let j = c .before in
@@ -83,7 +66,6 @@ returns-4 c =
     let l = d .before .before .before in
     tables-4 _ _ _ _ _ _ _ (l .before .copies .ensures) _ (l .look .ensures) (d .if1 .left) _ (f .before .mode-fits .ensures) (not-false _ (f .if2 .left)) (not-false _ (g .if3 .left)) _ (once-is j) (not-true _ (c .if5 .taken))
 
--- src/lib.rt:202:9
 returns-5 : tie.Need-returns-5
 returns-5 c =
     let e = c .before in
@@ -93,11 +75,9 @@ returns-5 c =
     let l = d .before .before .before in
     tables-6 _ _ _ _ _ _ _ (l .before .copies .ensures) _ (l .look .ensures) (d .if1 .left) _ (f .before .mode-fits .ensures) (not-false _ (f .if2 .left)) (not-false _ (g .if3 .left)) _ (once-is (e .before)) (not-false _ (e .if5 .left)) (c .if6 .taken)
 
--- src/lib.rt:204:5
 held-distinct-requires : tie.Need-held-distinct-requires
 held-distinct-requires c κs = search needs
 
--- src/lib.rt:176:1
 returns-6 : tie.Need-returns-6
 returns-6 c =
     let e = c .before .before in

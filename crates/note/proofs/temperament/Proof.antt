@@ -1,12 +1,11 @@
 -- The rule is one test that antt computes over the whole table, and one law that turns it into the rule of each entry.
 use mathlib.Core.Path.{_≡_, refl}
-use mathlib.Core.Bool.{Bool, true, false, _&&_}
+use mathlib.Core.Bool.{Bool, true, _&&_}
 use Prim.Native.Nat.{ℕ, _+_, _*_, _-_, _^_, _<_}
 use borrow.Author.Tests.{leb-true}
 use lib.Dec.{leb}
 use lib.Ieee.{Float, nan, ofBits}
 use lib.Ieee.Positive.{num, den, positive}
-use lib.ListN.{length, getD}
 use Rattle.lists.specs.Choose.{both}
 use Rattle.lists.specs.Every.{every, every-at}
 use Rattle.note.specs.Frequency.{frequencies, freqOf}

@@ -3,27 +3,19 @@ use Rattle.same.proofs.Joined.{_&_, means}
 use borrow.Author.Needs.{needs}
 use Rattle.same.proofs.adsr_same.Statement.{statement}
 use Rattle.same.proofs.adsr_same.Tie as tie
-use Rattle.same.proofs.adsr_same.Reads as reads
-use Rattle.same.proofs.adsr_same.Lts as lts
-use Rattle.same.proofs.float_same.Reads as float-same-reads
 
--- src/lib.rt:187:5
 float-same-requires : tie.Need-float-same-requires
 float-same-requires c κs = search needs
 
--- src/lib.rt:188:11
 float-same-requires-2 : tie.Need-float-same-requires-2
 float-same-requires-2 c κs = search needs
 
--- src/lib.rt:189:11
 float-same-requires-3 : tie.Need-float-same-requires-3
 float-same-requires-3 c κs = search needs
 
--- src/lib.rt:190:11
 float-same-requires-4 : tie.Need-float-same-requires-4
 float-same-requires-4 c κs = search needs
 
--- src/lib.rt:184:1
 returns : tie.Need-returns
 returns c =
     means

@@ -9,10 +9,6 @@ use Rattle.stream.specs.declared.UnisonCopy.{UnisonCopy}
 use Rattle.same.proofs.Prefixes.{plain, first-more, first-differ, first-all}
 use Rattle.same.proofs.copies_same.Statement.{statement}
 use Rattle.same.proofs.copies_same.Tie as tie
-use Rattle.same.proofs.copies_same.Reads as reads
-use Rattle.same.proofs.copies_same.Lts as lts
-use Rattle.same.proofs.copy_same.Reads as copy-same-reads
-use Rattle.lists.proofs.smaller.Reads as smaller-reads
 
 abbrev Inv-loop : tie.InvT-loop
 Inv-loop n a b end i₀ i = (i ≤ end) × (map (λ (x : UnisonCopy). x) (take i a) ≡ map (λ (x : UnisonCopy). x) (take i b))
@@ -20,35 +16,27 @@ Inv-loop n a b end i₀ i = (i ≤ end) × (map (λ (x : UnisonCopy). x) (take i
 abbrev μ-loop : tie.MeasureT-loop
 μ-loop n a b end i₀ i = end - i
 
--- src/lib.rt:103:9
 smaller-requires : tie.Need-smaller-requires Inv-loop μ-loop
 smaller-requires c κs = search needs
 
--- src/lib.rt:105:5
 loop-holds : tie.Need-loop-holds Inv-loop μ-loop
 loop-holds c = (omega arith, refl)
 
--- src/lib.rt:106:23
 mul-copy-same : tie.Need-mul-copy-same Inv-loop μ-loop
 mul-copy-same c = omega arith
 
--- src/lib.rt:106:23
 array-copy-out-copy-same : tie.Need-array-copy-out-copy-same Inv-loop μ-loop
 array-copy-out-copy-same c = search needs
 
--- src/lib.rt:106:29
 mul-copy-same-2 : tie.Need-mul-copy-same-2 Inv-loop μ-loop
 mul-copy-same-2 c = omega arith
 
--- src/lib.rt:106:29
 array-copy-out-copy-same-2 : tie.Need-array-copy-out-copy-same-2 Inv-loop μ-loop
 array-copy-out-copy-same-2 c = search needs
 
--- src/lib.rt:106:13
 copy-same-requires : tie.Need-copy-same-requires Inv-loop μ-loop
 copy-same-requires c κs = search needs
 
--- src/lib.rt:107:13
 returns : tie.Need-returns Inv-loop μ-loop
 returns c =
     let b = c .before .before .before .before .before in
@@ -56,15 +44,12 @@ returns c =
     let e = b .before .smaller in
     plain _ _ (first-differ (λ (x : UnisonCopy). x) 8 (s .args .t1) (s .args .t2) (s .good .0 .1 .0 .1) (s .good .1 .0 .1 .0 .1) (s .args .n) (e .result) (e .ensures) (b .loop .i) _ (c .before .before .before .before .loop-test .taken) (c .before .copy-same .ensures .no (not-true _ (c .if1 .taken))))
 
--- src/lib.rt:109:9
 add-i : tie.Need-add-i Inv-loop μ-loop
 add-i c = omega arith
 
--- src/lib.rt:105:5
 loop-less : tie.Need-loop-less Inv-loop μ-loop
 loop-less c = omega arith
 
--- src/lib.rt:105:5
 loop-again : tie.Need-loop-again Inv-loop μ-loop
 loop-again c =
     let b = c .before .before .before .before .before in
@@ -72,7 +57,6 @@ loop-again c =
     let e = b .before .smaller in
     (omega arith, first-more (λ (x : UnisonCopy). x) 8 (s .args .t1) (s .args .t2) (s .good .0 .1 .0 .1) (s .good .1 .0 .1 .0 .1) (s .args .n) (e .result) (e .ensures) (b .loop .i) _ (c .before .before .before .before .loop-test .taken) (b .loop .inv .1) (c .before .copy-same .ensures .yes (not-false _ (c .if1 .left))))
 
--- src/lib.rt:100:1
 returns-2 : tie.Need-returns-2 Inv-loop μ-loop
 returns-2 c =
     let b = c .before in

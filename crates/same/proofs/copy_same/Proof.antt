@@ -3,40 +3,28 @@ use Rattle.same.proofs.Joined.{_&_, means}
 use borrow.Author.Needs.{needs}
 use Rattle.same.proofs.copy_same.Statement.{statement}
 use Rattle.same.proofs.copy_same.Tie as tie
-use Rattle.same.proofs.copy_same.Reads as reads
-use Rattle.same.proofs.copy_same.Lts as lts
-use Rattle.same.proofs.cutoff_same.Reads as cutoff-same-reads
-use Rattle.same.proofs.float_same.Reads as float-same-reads
 
--- src/lib.rt:90:5
 float-same-requires : tie.Need-float-same-requires
 float-same-requires c κs = search needs
 
--- src/lib.rt:91:11
 float-same-requires-2 : tie.Need-float-same-requires-2
 float-same-requires-2 c κs = search needs
 
--- src/lib.rt:92:11
 float-same-requires-3 : tie.Need-float-same-requires-3
 float-same-requires-3 c κs = search needs
 
--- src/lib.rt:93:11
 float-same-requires-4 : tie.Need-float-same-requires-4
 float-same-requires-4 c κs = search needs
 
--- src/lib.rt:94:11
 float-same-requires-5 : tie.Need-float-same-requires-5
 float-same-requires-5 c κs = search needs
 
--- src/lib.rt:95:11
 float-same-requires-6 : tie.Need-float-same-requires-6
 float-same-requires-6 c κs = search needs
 
--- src/lib.rt:96:11
 cutoff-same-requires : tie.Need-cutoff-same-requires
 cutoff-same-requires c κs = search needs
 
--- src/lib.rt:85:1
 returns : tie.Need-returns
 returns c =
     means

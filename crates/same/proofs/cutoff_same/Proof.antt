@@ -4,51 +4,37 @@ use Rattle.same.proofs.Variants.{unset-set, both-set}
 use borrow.Author.Needs.{needs}
 use Rattle.same.proofs.cutoff_same.Statement.{statement}
 use Rattle.same.proofs.cutoff_same.Tie as tie
-use Rattle.same.proofs.cutoff_same.Reads as reads
-use Rattle.same.proofs.cutoff_same.Lts as lts
-use Rattle.same.proofs.float_same.Reads as float-same-reads
 
--- src/lib.rt:74:26
 enum-told : tie.Need-enum-told
 enum-told c = search needs
 
--- src/lib.rt:75:30
 enum-told-2 : tie.Need-enum-told-2
 enum-told-2 c = search needs
 
--- src/lib.rt:76:31
 enum-told-3 : tie.Need-enum-told-3
 enum-told-3 c = search needs
 
--- src/lib.rt:78:21
 enum-known-a : tie.Need-enum-known-a
 enum-known-a c = search needs
 
--- src/lib.rt:79:30
 enum-told-4 : tie.Need-enum-told-4
 enum-told-4 c = search needs
 
--- src/lib.rt:80:25
 enum-known-b : tie.Need-enum-known-b
 enum-known-b c = search needs
 
--- src/lib.rt:80:31
 float-same-requires : tie.Need-float-same-requires
 float-same-requires c κs = search needs
 
--- src/lib.rt:70:1
 returns : tie.Need-returns
 returns c = holds (c .before .before .enum-told .given .1 ∙ sym (c .enum-told2 .given .1))
 
--- src/lib.rt:70:1
 returns-2 : tie.Need-returns-2
 returns-2 c = fails (unset-set _ _ _ (c .before .before .enum-told .given .1) (c .enum-told3 .given .1))
 
--- src/lib.rt:70:1
 returns-3 : tie.Need-returns-3
 returns-3 c = fails (λ e. unset-set _ _ _ (c .enum-told4 .given .1) (c .before .before .before .a .given .1) (sym e))
 
--- src/lib.rt:70:1
 returns-4 : tie.Need-returns-4
 returns-4 c = both-set _ _ _ _ (c .before .before .before .before .before .a .given .1) (c .before .before .b .given .1) (c .float-same .ensures)
 

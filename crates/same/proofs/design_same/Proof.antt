@@ -3,34 +3,22 @@ use Rattle.same.proofs.Joined.{_&_, means, numbers}
 use borrow.Author.Needs.{needs}
 use Rattle.same.proofs.design_same.Statement.{statement}
 use Rattle.same.proofs.design_same.Tie as tie
-use Rattle.same.proofs.design_same.Reads as reads
-use Rattle.same.proofs.design_same.Lts as lts
-use Rattle.same.proofs.adsr_same.Reads as adsr-same-reads
-use Rattle.same.proofs.float_same.Reads as float-same-reads
-use Rattle.same.proofs.mode_same.Reads as mode-same-reads
-use Rattle.same.proofs.modulation_same.Reads as modulation-same-reads
 
--- src/lib.rt:215:11
 mode-same-requires : tie.Need-mode-same-requires
 mode-same-requires c κs = search needs
 
--- src/lib.rt:217:11
 float-same-requires : tie.Need-float-same-requires
 float-same-requires c κs = search needs
 
--- src/lib.rt:218:11
 adsr-same-requires : tie.Need-adsr-same-requires
 adsr-same-requires c κs = search needs
 
--- src/lib.rt:219:11
 float-same-requires-2 : tie.Need-float-same-requires-2
 float-same-requires-2 c κs = search needs
 
--- src/lib.rt:220:11
 modulation-same-requires : tie.Need-modulation-same-requires
 modulation-same-requires c κs = search needs
 
--- src/lib.rt:204:1
 returns : tie.Need-returns
 returns c =
     means

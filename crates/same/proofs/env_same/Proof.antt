@@ -3,44 +3,31 @@ use Rattle.same.proofs.Joined.{_&_, means}
 use borrow.Author.Needs.{needs}
 use Rattle.same.proofs.env_same.Statement.{statement}
 use Rattle.same.proofs.env_same.Tie as tie
-use Rattle.same.proofs.env_same.Reads as reads
-use Rattle.same.proofs.env_same.Lts as lts
-use Rattle.same.proofs.float_same.Reads as float-same-reads
-use Rattle.same.proofs.stage_same.Reads as stage-same-reads
 
--- src/lib.rt:60:5
 float-same-requires : tie.Need-float-same-requires
 float-same-requires c κs = search needs
 
--- src/lib.rt:61:11
 float-same-requires-2 : tie.Need-float-same-requires-2
 float-same-requires-2 c κs = search needs
 
--- src/lib.rt:62:11
 float-same-requires-3 : tie.Need-float-same-requires-3
 float-same-requires-3 c κs = search needs
 
--- src/lib.rt:63:11
 float-same-requires-4 : tie.Need-float-same-requires-4
 float-same-requires-4 c κs = search needs
 
--- src/lib.rt:64:11
 float-same-requires-5 : tie.Need-float-same-requires-5
 float-same-requires-5 c κs = search needs
 
--- src/lib.rt:65:11
 stage-same-requires : tie.Need-stage-same-requires
 stage-same-requires c κs = search needs
 
--- src/lib.rt:66:11
 float-same-requires-6 : tie.Need-float-same-requires-6
 float-same-requires-6 c κs = search needs
 
--- src/lib.rt:67:11
 float-same-requires-7 : tie.Need-float-same-requires-7
 float-same-requires-7 c κs = search needs
 
--- src/lib.rt:55:1
 returns : tie.Need-returns
 returns c =
     means

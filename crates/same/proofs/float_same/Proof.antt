@@ -2,19 +2,13 @@ use Rattle.same.proofs.Joined.{by-bits}
 use borrow.Author.Needs.{needs}
 use Rattle.same.proofs.float_same.Statement.{statement}
 use Rattle.same.proofs.float_same.Tie as tie
-use Rattle.same.proofs.float_same.Reads as reads
-use Rattle.same.proofs.float_same.Lts as lts
-use Rattle.float32.proofs.to_bits.Reads as to-bits-reads
 
--- src/lib.rt:34:5
 to-bits-requires : tie.Need-to-bits-requires
 to-bits-requires c κs = search needs
 
--- src/lib.rt:34:28
 to-bits-requires-2 : tie.Need-to-bits-requires-2
 to-bits-requires-2 c κs = search needs
 
--- src/lib.rt:31:1
 returns : tie.Need-returns
 returns c = let s = c .before .before in by-bits _ _ _ _ (s .good .0 .1) (s .good .1 .0 .1) (c .before .to-bits .ensures) (c .to-bits2 .ensures)
 

@@ -1,10 +1,7 @@
 use Rattle.same.proofs.Joined.{numbers}
 use Rattle.same.proofs.note_same.Statement.{statement}
 use Rattle.same.proofs.note_same.Tie as tie
-use Rattle.same.proofs.note_same.Reads as reads
-use Rattle.same.proofs.note_same.Lts as lts
 
--- src/lib.rt:148:1
 returns : tie.Need-returns
 returns c = numbers _ _
 

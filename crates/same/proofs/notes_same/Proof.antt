@@ -9,10 +9,6 @@ use Rattle.formed.specs.Held.{numberOfNote}
 use Rattle.same.proofs.Prefixes.{first-more, first-differ, first-all}
 use Rattle.same.proofs.notes_same.Statement.{statement}
 use Rattle.same.proofs.notes_same.Tie as tie
-use Rattle.same.proofs.notes_same.Reads as reads
-use Rattle.same.proofs.notes_same.Lts as lts
-use Rattle.lists.proofs.smaller.Reads as smaller-reads
-use Rattle.same.proofs.note_same.Reads as note-same-reads
 
 abbrev Inv-loop : tie.InvT-loop
 Inv-loop n a b end i₀ i = (i ≤ end) × (map numberOfNote (take i a) ≡ map numberOfNote (take i b))
@@ -20,27 +16,21 @@ Inv-loop n a b end i₀ i = (i ≤ end) × (map numberOfNote (take i a) ≡ map 
 abbrev μ-loop : tie.MeasureT-loop
 μ-loop n a b end i₀ i = end - i
 
--- src/lib.rt:158:9
 smaller-requires : tie.Need-smaller-requires Inv-loop μ-loop
 smaller-requires c κs = search needs
 
--- src/lib.rt:160:5
 loop-holds : tie.Need-loop-holds Inv-loop μ-loop
 loop-holds c = (omega arith, refl)
 
--- src/lib.rt:161:23
 array-copy-out-note-same : tie.Need-array-copy-out-note-same Inv-loop μ-loop
 array-copy-out-note-same c = search needs
 
--- src/lib.rt:161:29
 array-copy-out-note-same-2 : tie.Need-array-copy-out-note-same-2 Inv-loop μ-loop
 array-copy-out-note-same-2 c = search needs
 
--- src/lib.rt:161:13
 note-same-requires : tie.Need-note-same-requires Inv-loop μ-loop
 note-same-requires c κs = search needs
 
--- src/lib.rt:162:13
 returns : tie.Need-returns Inv-loop μ-loop
 returns c =
     let b = c .before .before .before .before .before in
@@ -48,15 +38,12 @@ returns c =
     let e = b .before .smaller in
     first-differ numberOfNote 256 (s .args .t1) (s .args .t2) (s .good .0 .1 .0 .1) (s .good .1 .0 .1 .0 .1) (s .args .n) (e .result) (e .ensures) (b .loop .i) _ (c .before .before .before .before .loop-test .taken) (c .before .note-same .ensures .no (not-true _ (c .if1 .taken)))
 
--- src/lib.rt:164:9
 add-i : tie.Need-add-i Inv-loop μ-loop
 add-i c = omega arith
 
--- src/lib.rt:160:5
 loop-less : tie.Need-loop-less Inv-loop μ-loop
 loop-less c = omega arith
 
--- src/lib.rt:160:5
 loop-again : tie.Need-loop-again Inv-loop μ-loop
 loop-again c =
     let b = c .before .before .before .before .before in
@@ -64,7 +51,6 @@ loop-again c =
     let e = b .before .smaller in
     (omega arith, first-more numberOfNote 256 (s .args .t1) (s .args .t2) (s .good .0 .1 .0 .1) (s .good .1 .0 .1 .0 .1) (s .args .n) (e .result) (e .ensures) (b .loop .i) _ (c .before .before .before .before .loop-test .taken) (b .loop .inv .1) (c .before .note-same .ensures .yes (not-false _ (c .if1 .left))))
 
--- src/lib.rt:155:1
 returns-2 : tie.Need-returns-2 Inv-loop μ-loop
 returns-2 c =
     let b = c .before in

@@ -4,30 +4,19 @@ use Rattle.same.proofs.Rooms.{sized, whole}
 use borrow.Author.Needs.{needs}
 use Rattle.same.proofs.same.Statement.{statement}
 use Rattle.same.proofs.same.Tie as tie
-use Rattle.same.proofs.same.Reads as reads
-use Rattle.same.proofs.same.Lts as lts
-use Rattle.same.proofs.design_same.Reads as design-same-reads
-use Rattle.same.proofs.held_same.Reads as held-same-reads
-use Rattle.same.proofs.scales_same.Reads as scales-same-reads
-use Rattle.same.proofs.table_same.Reads as table-same-reads
 
--- src/lib.rt:252:5
 design-same-requires : tie.Need-design-same-requires
 design-same-requires c κs = search needs
 
--- src/lib.rt:253:11
 table-same-requires : tie.Need-table-same-requires
 table-same-requires c κs = search needs
 
--- src/lib.rt:256:11
 scales-same-requires : tie.Need-scales-same-requires
 scales-same-requires c κs = search needs
 
--- src/lib.rt:258:11
 held-same-requires : tie.Need-held-same-requires
 held-same-requires c κs = search needs
 
--- src/lib.rt:245:1
 returns : tie.Need-returns
 returns c =
     let s = c .before .before .before .before .before .before .before .before .before .before .before .before in

@@ -3,15 +3,10 @@ use Rattle.same.proofs.Records.{table-parts}
 use borrow.Author.Needs.{needs}
 use Rattle.same.proofs.table_same.Statement.{statement}
 use Rattle.same.proofs.table_same.Tie as tie
-use Rattle.same.proofs.table_same.Reads as reads
-use Rattle.same.proofs.table_same.Lts as lts
-use Rattle.same.proofs.voices_same.Reads as voices-same-reads
 
--- src/lib.rt:241:40
 voices-same-requires : tie.Need-voices-same-requires
 voices-same-requires c κs = search needs
 
--- src/lib.rt:236:1
 returns : tie.Need-returns
 returns c = table-parts _ _ (numbers _ _ & c .voices-same .ensures)
 

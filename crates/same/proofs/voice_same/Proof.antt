@@ -3,29 +3,19 @@ use Rattle.same.proofs.Records.{voice-parts}
 use borrow.Author.Needs.{needs}
 use Rattle.same.proofs.voice_same.Statement.{statement}
 use Rattle.same.proofs.voice_same.Tie as tie
-use Rattle.same.proofs.voice_same.Reads as reads
-use Rattle.same.proofs.voice_same.Lts as lts
-use Rattle.same.proofs.copies_same.Reads as copies-same-reads
-use Rattle.same.proofs.env_same.Reads as env-same-reads
-use Rattle.same.proofs.float_same.Reads as float-same-reads
 
--- src/lib.rt:125:11
 copies-same-requires : tie.Need-copies-same-requires
 copies-same-requires c κs = search needs
 
--- src/lib.rt:126:11
 float-same-requires : tie.Need-float-same-requires
 float-same-requires c κs = search needs
 
--- src/lib.rt:127:11
 env-same-requires : tie.Need-env-same-requires
 env-same-requires c κs = search needs
 
--- src/lib.rt:128:11
 float-same-requires-2 : tie.Need-float-same-requires-2
 float-same-requires-2 c κs = search needs
 
--- src/lib.rt:115:1
 returns : tie.Need-returns
 returns c =
     voice-parts _ _

@@ -9,10 +9,6 @@ use Rattle.voice.specs.View.{seen}
 use Rattle.same.proofs.Prefixes.{first-more, first-differ, first-all}
 use Rattle.same.proofs.voices_same.Statement.{statement}
 use Rattle.same.proofs.voices_same.Tie as tie
-use Rattle.same.proofs.voices_same.Reads as reads
-use Rattle.same.proofs.voices_same.Lts as lts
-use Rattle.lists.proofs.smaller.Reads as smaller-reads
-use Rattle.same.proofs.voice_same.Reads as voice-same-reads
 
 abbrev Inv-loop : tie.InvT-loop
 Inv-loop n a b end i₀ i = (i ≤ end) × (map seen (take i a) ≡ map seen (take i b))
@@ -20,35 +16,27 @@ Inv-loop n a b end i₀ i = (i ≤ end) × (map seen (take i a) ≡ map seen (ta
 abbrev μ-loop : tie.MeasureT-loop
 μ-loop n a b end i₀ i = end - i
 
--- src/lib.rt:137:9
 smaller-requires : tie.Need-smaller-requires Inv-loop μ-loop
 smaller-requires c κs = search needs
 
--- src/lib.rt:139:5
 loop-holds : tie.Need-loop-holds Inv-loop μ-loop
 loop-holds c = (omega arith, refl)
 
--- src/lib.rt:140:24
 mul-voice-same : tie.Need-mul-voice-same Inv-loop μ-loop
 mul-voice-same c = omega arith
 
--- src/lib.rt:140:24
 array-copy-out-voice-same : tie.Need-array-copy-out-voice-same Inv-loop μ-loop
 array-copy-out-voice-same c = search needs
 
--- src/lib.rt:140:30
 mul-voice-same-2 : tie.Need-mul-voice-same-2 Inv-loop μ-loop
 mul-voice-same-2 c = omega arith
 
--- src/lib.rt:140:30
 array-copy-out-voice-same-2 : tie.Need-array-copy-out-voice-same-2 Inv-loop μ-loop
 array-copy-out-voice-same-2 c = search needs
 
--- src/lib.rt:140:13
 voice-same-requires : tie.Need-voice-same-requires Inv-loop μ-loop
 voice-same-requires c κs = search needs
 
--- src/lib.rt:141:13
 returns : tie.Need-returns Inv-loop μ-loop
 returns c =
     let b = c .before .before .before .before .before in
@@ -56,15 +44,12 @@ returns c =
     let e = b .before .smaller in
     first-differ seen 64 (s .args .t1) (s .args .t2) (s .good .0 .1 .0 .1) (s .good .1 .0 .1 .0 .1) (s .args .n) (e .result) (e .ensures) (b .loop .i) _ (c .before .before .before .before .loop-test .taken) (c .before .voice-same .ensures .no (not-true _ (c .if1 .taken)))
 
--- src/lib.rt:143:9
 add-i : tie.Need-add-i Inv-loop μ-loop
 add-i c = omega arith
 
--- src/lib.rt:139:5
 loop-less : tie.Need-loop-less Inv-loop μ-loop
 loop-less c = omega arith
 
--- src/lib.rt:139:5
 loop-again : tie.Need-loop-again Inv-loop μ-loop
 loop-again c =
     let b = c .before .before .before .before .before in
@@ -72,7 +57,6 @@ loop-again c =
     let e = b .before .smaller in
     (omega arith, first-more seen 64 (s .args .t1) (s .args .t2) (s .good .0 .1 .0 .1) (s .good .1 .0 .1 .0 .1) (s .args .n) (e .result) (e .ensures) (b .loop .i) _ (c .before .before .before .before .loop-test .taken) (b .loop .inv .1) (c .before .voice-same .ensures .yes (not-false _ (c .if1 .left))))
 
--- src/lib.rt:134:1
 returns-2 : tie.Need-returns-2 Inv-loop μ-loop
 returns-2 c =
     let b = c .before in

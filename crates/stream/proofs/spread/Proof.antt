@@ -1,30 +1,22 @@
-use mathlib.Core.Path.{_≡_, sym}
 use borrow.Author.Tests.{le-leb, lt-leb}
 use Rattle.stream.specs.Copies.{spreadOf}
 use borrow.Author.Needs.{needs}
 use Rattle.stream.proofs.spread.Statement.{statement}
 use Rattle.stream.proofs.spread.Tie as tie
-use Rattle.stream.proofs.spread.Reads as reads
-use Rattle.stream.proofs.spread.Lts as lts
 
--- src/lib.rt:32:9
 returns : tie.Need-returns
 unfolding spreadOf
 returns c = simp (le-leb _ _ (c .if1 .taken))
 
--- src/lib.rt:34:6
 int-to-float-result : tie.Need-int-to-float-result
 int-to-float-result c = search needs
 
--- src/lib.rt:34:18
 sub-result : tie.Need-sub-result
 sub-result c = search needs
 
--- src/lib.rt:34:17
 int-to-float-result-2 : tie.Need-int-to-float-result-2
 int-to-float-result-2 c = search needs
 
--- src/lib.rt:28:1
 returns-2 : tie.Need-returns-2
 unfolding spreadOf
 returns-2 c = simp (lt-leb _ _ (c .before .before .if1 .left))

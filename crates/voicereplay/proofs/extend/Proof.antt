@@ -1,6 +1,6 @@
 -- `extend` is safe and ends: `i` counts up to `to`.
 use mathlib.Core.Path.{_≡_}
-use Prim.Native.Nat.{_≤_, _-_}
+use Prim.Native.Nat.{_-_}
 use lib.ListN.{length}
 use borrow.Author.Needs.{needs}
 use Rattle.voicereplay.proofs.extend.Statement.{statement}

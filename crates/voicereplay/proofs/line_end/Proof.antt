@@ -1,5 +1,4 @@
 -- `line_end` meets its contract, and ends: `i` counts up to the length.
-use mathlib.Core.Path.{_≡_}
 use Prim.Native.Nat.{_≤_, _-_}
 use lib.ListN.{length}
 use borrow.Author.Needs.{needs}

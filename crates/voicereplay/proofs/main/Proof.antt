@@ -1,6 +1,6 @@
 -- `main` is safe and ends: the turns count down. What is lent keeps its length.
 use mathlib.Core.Path.{_≡_}
-use Prim.Native.Nat.{_≤_, _-_}
+use Prim.Native.Nat.{_-_}
 use lib.ListN.{length}
 use borrow.Author.Needs.{needs}
 use Rattle.voicereplay.proofs.main.Statement.{statement}

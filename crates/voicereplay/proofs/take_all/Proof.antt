@@ -1,6 +1,6 @@
 -- `take_all` is safe and ends: each turn goes on behind a line feed. What is lent keeps its length.
 use mathlib.Core.Path.{_≡_}
-use Prim.Native.Nat.{_≤_, _-_}
+use Prim.Native.Nat.{_-_}
 use lib.ListN.{length}
 use borrow.Author.Needs.{needs}
 use Rattle.voicereplay.proofs.take_all.Statement.{statement}

@@ -4,30 +4,21 @@ use borrow.Author.Tests.{not-true, not-false}
 use borrow.Author.Needs.{needs}
 use Rattle.design.proofs.InstrumentDesign.accepted.Statement.{statement}
 use Rattle.design.proofs.InstrumentDesign.accepted.Tie as tie
-use Rattle.design.proofs.InstrumentDesign.accepted.Reads as reads
-use Rattle.design.proofs.InstrumentDesign.accepted.Lts as lts
-use Rattle.design.proofs.InstrumentDesign.floats_fit.Reads as floats-fit-reads
-use Rattle.design.proofs.InstrumentDesign.numbers_fit.Reads as numbers-fit-reads
 
--- src/lib.rt:127:13
 numbers-fit-requires : tie.Need-numbers-fit-requires
 numbers-fit-requires c κs = search needs
 
--- src/lib.rt:128:13
 returns : tie.Need-returns
 returns c = number-outside _ (sym (c .before .numbers-fit .ensures) ∙ not-true _ (c .if1 .taken))
 
--- src/lib.rt:130:13
 floats-fit-requires : tie.Need-floats-fit-requires
 floats-fit-requires c κs = search needs
 
--- src/lib.rt:131:13
 returns-2 : tie.Need-returns-2
 returns-2 c =
     let b = c .before .before in
     not-finite _ (sym (b .before .numbers-fit .ensures) ∙ not-false _ (b .if1 .left)) (sym (c .before .floats-fit .ensures) ∙ not-true _ (c .if2 .taken))
 
--- src/lib.rt:124:5
 returns-3 : tie.Need-returns-3
 returns-3 c =
     let b = c .before .before in

@@ -2,15 +2,11 @@ use borrow.Author.Tests.{eq-eqb, ne-eqb}
 use Rattle.design.specs.Accepted.{copiesOf}
 use Rattle.design.proofs.InstrumentDesign.copies.Statement.{statement}
 use Rattle.design.proofs.InstrumentDesign.copies.Tie as tie
-use Rattle.design.proofs.InstrumentDesign.copies.Reads as reads
-use Rattle.design.proofs.InstrumentDesign.copies.Lts as lts
 
--- src/lib.rt:137:5
 returns : tie.Need-returns
 unfolding copiesOf
 returns c = simp (eq-eqb _ _ (c .if1 .taken))
 
--- src/lib.rt:137:5
 returns-2 : tie.Need-returns-2
 unfolding copiesOf
 returns-2 c = simp (ne-eqb _ _ (c .if1 .left))

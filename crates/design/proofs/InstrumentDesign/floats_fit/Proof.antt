@@ -5,37 +5,26 @@ use Rattle.design.specs.Accepted.{floatsFit}
 use borrow.Author.Needs.{needs}
 use Rattle.design.proofs.InstrumentDesign.floats_fit.Statement.{statement}
 use Rattle.design.proofs.InstrumentDesign.floats_fit.Tie as tie
-use Rattle.design.proofs.InstrumentDesign.floats_fit.Reads as reads
-use Rattle.design.proofs.InstrumentDesign.floats_fit.Lts as lts
-use Rattle.design.proofs.Modulation.all_finite.Reads as Modulation-all-finite-reads
-use Rattle.envelope.proofs.all_finite.Reads as all-finite-reads
-use Rattle.float32.proofs.is_finite.Reads as is-finite-reads
 
--- src/lib.rt:111:13
 all-finite-requires : tie.Need-all-finite-requires
 all-finite-requires c κs = search needs
 
--- src/lib.rt:112:13
 returns : tie.Need-returns
 unfolding floatsFit
 returns c = and-fails _ _ (sym (c .before .all-finite .ensures) ∙ not-true _ (c .if1 .taken))
 
--- src/lib.rt:114:13
 is-finite-requires : tie.Need-is-finite-requires
 is-finite-requires c κs = search needs
 
--- src/lib.rt:115:13
 returns-2 : tie.Need-returns-2
 unfolding floatsFit
 returns-2 c =
     let b = c .before .before in
     and-then _ _ _ (sym (b .before .all-finite .ensures) ∙ not-false _ (b .if1 .left)) (and-fails _ _ (sym (c .before .is-finite .ensures) ∙ not-true _ (c .if2 .taken)))
 
--- src/lib.rt:117:13
 is-finite-requires-2 : tie.Need-is-finite-requires-2
 is-finite-requires-2 c κs = search needs
 
--- src/lib.rt:118:13
 returns-3 : tie.Need-returns-3
 unfolding floatsFit
 returns-3 c =
@@ -44,11 +33,9 @@ returns-3 c =
     and-then _ _ _ (sym (b .before .all-finite .ensures) ∙ not-false _ (b .if1 .left))
     (and-then _ _ _ (sym (a .before .is-finite .ensures) ∙ not-false _ (a .if2 .left)) (and-fails _ _ (sym (c .before .is-finite2 .ensures) ∙ not-true _ (c .if3 .taken))))
 
--- src/lib.rt:120:9
 all-finite-requires-2 : tie.Need-all-finite-requires-2
 all-finite-requires-2 c κs = search needs
 
--- src/lib.rt:106:5
 returns-4 : tie.Need-returns-4
 unfolding floatsFit
 returns-4 c =

@@ -5,27 +5,20 @@ use Rattle.design.specs.Accepted.{numbersFit}
 use borrow.Author.Needs.{needs}
 use Rattle.design.proofs.InstrumentDesign.numbers_fit.Statement.{statement}
 use Rattle.design.proofs.InstrumentDesign.numbers_fit.Tie as tie
-use Rattle.design.proofs.InstrumentDesign.numbers_fit.Reads as reads
-use Rattle.design.proofs.InstrumentDesign.numbers_fit.Lts as lts
-use Rattle.envelope.proofs.rate_fits.Reads as rate-fits-reads
 
--- src/lib.rt:94:13
 rate-fits-requires : tie.Need-rate-fits-requires
 rate-fits-requires c κs = search needs
 
--- src/lib.rt:95:13
 returns : tie.Need-returns
 unfolding numbersFit
 returns c = and-fails _ _ (sym (c .before .rate-fits .ensures) ∙ not-true _ (c .if1 .taken))
 
--- src/lib.rt:98:13
 returns-2 : tie.Need-returns-2
 unfolding numbersFit
 returns-2 c =
     let b = c .before .before in
     and-then _ _ _ (sym (b .before .rate-fits .ensures) ∙ not-false _ (b .if1 .left)) (and-fails _ _ (lt-leb _ _ (c .if2 .taken)))
 
--- src/lib.rt:101:13
 returns-3 : tie.Need-returns-3
 unfolding numbersFit
 returns-3 c =
@@ -33,7 +26,6 @@ returns-3 c =
     let b = a .before .before in
     and-then _ _ _ (sym (b .before .rate-fits .ensures) ∙ not-false _ (b .if1 .left)) (and-then _ _ _ (le-leb _ _ (a .if2 .left)) (and-fails _ _ (lt-leb _ _ (c .if3 .taken))))
 
--- src/lib.rt:91:5
 returns-4 : tie.Need-returns-4
 unfolding numbersFit
 returns-4 c =

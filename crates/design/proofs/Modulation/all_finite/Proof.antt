@@ -5,36 +5,26 @@ use Rattle.design.specs.Accepted.{modulationFinite}
 use borrow.Author.Needs.{needs}
 use Rattle.design.proofs.Modulation.all_finite.Statement.{statement}
 use Rattle.design.proofs.Modulation.all_finite.Tie as tie
-use Rattle.design.proofs.Modulation.all_finite.Reads as reads
-use Rattle.design.proofs.Modulation.all_finite.Lts as lts
-use Rattle.envelope.proofs.all_finite.Reads as all-finite-reads
-use Rattle.float32.proofs.is_finite.Reads as is-finite-reads
 
--- src/lib.rt:57:13
 all-finite-requires : tie.Need-all-finite-requires
 all-finite-requires c κs = search needs
 
--- src/lib.rt:63:13
 returns : tie.Need-returns
 unfolding modulationFinite
 returns c = and-fails _ _ (sym (c .before .all-finite .ensures) ∙ not-true _ (c .if1 .taken))
 
--- src/lib.rt:65:13
 is-finite-requires : tie.Need-is-finite-requires
 is-finite-requires c κs = search needs
 
--- src/lib.rt:66:13
 returns-2 : tie.Need-returns-2
 unfolding modulationFinite
 returns-2 c =
     let b = c .before .before in
     and-then _ _ _ (sym (b .before .all-finite .ensures) ∙ not-false _ (b .if1 .left)) (and-fails _ _ (sym (c .before .is-finite .ensures) ∙ not-true _ (c .if2 .taken)))
 
--- src/lib.rt:68:9
 is-finite-requires-2 : tie.Need-is-finite-requires-2
 is-finite-requires-2 c κs = search needs
 
--- src/lib.rt:54:5
 returns-3 : tie.Need-returns-3
 unfolding modulationFinite
 returns-3 c =

@@ -4,35 +4,26 @@ use Rattle.design.specs.Accepted.{modulated}
 use borrow.Author.Needs.{needs}
 use Rattle.design.proofs.Modulation.is_active.Statement.{statement}
 use Rattle.design.proofs.Modulation.is_active.Tie as tie
-use Rattle.design.proofs.Modulation.is_active.Reads as reads
-use Rattle.design.proofs.Modulation.is_active.Lts as lts
-use Rattle.design.proofs.lfo_active.Reads as lfo-active-reads
 
--- src/lib.rt:44:12
 lfo-active-requires : tie.Need-lfo-active-requires
 lfo-active-requires c κs = search needs
 
--- src/lib.rt:45:13
 returns : tie.Need-returns
 unfolding modulated
 returns c = or-passes _ _ (sym (c .before .lfo-active .ensures) ∙ c .if1 .taken)
 
--- src/lib.rt:47:12
 lfo-active-requires-2 : tie.Need-lfo-active-requires-2
 lfo-active-requires-2 c κs = search needs
 
--- src/lib.rt:48:13
 returns-2 : tie.Need-returns-2
 unfolding modulated
 returns-2 c =
     let b = c .before .before in
     or-else _ _ _ (sym (b .before .lfo-active .ensures) ∙ b .if1 .left) (or-passes _ _ (sym (c .before .lfo-active2 .ensures) ∙ c .if2 .taken))
 
--- src/lib.rt:50:9
 lfo-active-requires-3 : tie.Need-lfo-active-requires-3
 lfo-active-requires-3 c κs = search needs
 
--- src/lib.rt:41:5
 returns-3 : tie.Need-returns-3
 unfolding modulated
 returns-3 c =

@@ -3,19 +3,14 @@ use Rattle.envelope.proofs.Stages.{not-sustain}
 use borrow.Author.Needs.{needs}
 use Rattle.envelope.proofs.EnvGen.faded.Statement.{statement}
 use Rattle.envelope.proofs.EnvGen.faded.Tie as tie
-use Rattle.envelope.proofs.EnvGen.faded.Reads as reads
-use Rattle.envelope.proofs.EnvGen.faded.Lts as lts
 
--- src/lib.rt:162:41
 enum-told : tie.Need-enum-told
 enum-told c = search needs
 
--- src/lib.rt:158:5
 returns : tie.Need-returns
 unfolding isFaded
 returns c = rw (c .before .enum-told .given .1)
 
--- src/lib.rt:158:5
 returns-2 : tie.Need-returns-2
 unfolding isFaded
 returns-2 c = rw (not-sustain (c .before .args .self .stage) (c .match .keys2))

@@ -7,9 +7,6 @@ use Rattle.envelope.proofs.Stages.{not-idle}
 use borrow.Author.Needs.{needs}
 use Rattle.envelope.proofs.EnvGen.gate_off.Statement.{statement}
 use Rattle.envelope.proofs.EnvGen.gate_off.Tie as tie
-use Rattle.envelope.proofs.EnvGen.gate_off.Reads as reads
-use Rattle.envelope.proofs.EnvGen.gate_off.Lts as lts
-use Rattle.envelope.proofs.EnvGen.at.Reads as at-reads
 
 idle : (e : EnvGen) → isIdle (e .stage) ≡ true → e ≡ gatedOff e
 unfolding gatedOff
@@ -19,19 +16,15 @@ gated : (e : EnvGen) → isIdle (e .stage) ≡ false → released e (e .r) ≡ g
 unfolding gatedOff
 gated e h = sym (cond-false _ _ _ h)
 
--- src/lib.rt:129:13
 enum-told : tie.Need-enum-told
 enum-told c = search needs
 
--- src/lib.rt:129:13
 returns : tie.Need-returns
 returns c = idle _ (rw (c .enum-told .given .1))
 
--- src/lib.rt:132:9
 at-requires : tie.Need-at-requires
 at-requires c κs = search needs
 
--- src/lib.rt:124:5
 returns-2 : tie.Need-returns-2
 unfolding at released
 returns-2 c = c .at .ensures ∙ gated _ (not-idle (c .before .before .args .self .stage) (c .before .match .keys2))

@@ -2,15 +2,10 @@ use Rattle.envelope.specs.Gates.{gatedOn}
 use borrow.Author.Needs.{needs}
 use Rattle.envelope.proofs.EnvGen.gate_on.Statement.{statement}
 use Rattle.envelope.proofs.EnvGen.gate_on.Tie as tie
-use Rattle.envelope.proofs.EnvGen.gate_on.Reads as reads
-use Rattle.envelope.proofs.EnvGen.gate_on.Lts as lts
-use Rattle.envelope.proofs.EnvGen.at.Reads as at-reads
 
--- src/lib.rt:120:9
 at-requires : tie.Need-at-requires
 at-requires c κs = search needs
 
--- src/lib.rt:117:5
 returns : tie.Need-returns
 unfolding gatedOn
 returns c = c .at .ensures

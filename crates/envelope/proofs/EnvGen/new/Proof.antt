@@ -5,61 +5,42 @@ use Rattle.envelope.proofs.Starts.{rate-float, new-rate, new-float, new
 use borrow.Author.Needs.{needs}
 use Rattle.envelope.proofs.EnvGen.new.Statement.{statement}
 use Rattle.envelope.proofs.EnvGen.new.Tie as tie
-use Rattle.envelope.proofs.EnvGen.new.Reads as reads
-use Rattle.envelope.proofs.EnvGen.new.Lts as lts
-use Rattle.envelope.proofs.all_finite.Reads as all-finite-reads
-use Rattle.envelope.proofs.rate_fits.Reads as rate-fits-reads
-use Rattle.envelope.proofs.refused.Reads as refused-reads
-use Rattle.float32.proofs.clamp.Reads as clamp-reads
-use Rattle.float32.proofs.max.Reads as max-reads
 
--- src/lib.rt:78:13
 rate-fits-requires : tie.Need-rate-fits-requires
 rate-fits-requires c κs = search needs
 
--- src/lib.rt:79:13
 refused-requires : tie.Need-refused-requires
 refused-requires c κs = search needs
 
--- src/lib.rt:79:13
 returns : tie.Need-returns
 returns c = c .refused .ensures ∙ new-rate _ _ _ _ _ (sym (c .before .before .rate-fits .ensures) ∙ not-true _ (c .before .if1 .taken))
 
--- src/lib.rt:81:13
 all-finite-requires : tie.Need-all-finite-requires
 all-finite-requires c κs = search needs
 
--- src/lib.rt:82:13
 refused-requires-2 : tie.Need-refused-requires-2
 refused-requires-2 c κs = search needs
 
--- src/lib.rt:82:13
 returns-2 : tie.Need-returns-2
 returns-2 c =
     let b = c .before .before .before in
     c .refused2 .ensures ∙ new-float _ _ _ _ _ (sym (b .before .rate-fits .ensures) ∙ not-false _ (b .if1 .left)) (sym (c .before .before .all-finite .ensures) ∙ not-true _ (c .before .if2 .taken))
 
--- src/lib.rt:85:16
 max-requires : tie.Need-max-requires
 max-requires c κs = search needs
 
--- src/lib.rt:86:16
 max-requires-2 : tie.Need-max-requires-2
 max-requires-2 c κs = search needs
 
--- src/lib.rt:87:16
 clamp-requires : tie.Need-clamp-requires
 clamp-requires c κs = search needs
 
--- src/lib.rt:88:16
 max-requires-3 : tie.Need-max-requires-3
 max-requires-3 c κs = search needs
 
--- src/lib.rt:89:17
 int-to-float-t13 : tie.Need-int-to-float-t13
 int-to-float-t13 c = let b = c .before .before .before .before .before .before .before in rate-float _ (sym (b .before .rate-fits .ensures) ∙ not-false _ (b .if1 .left))
 
--- src/lib.rt:75:5
 returns-3 : tie.Need-returns-3
 unfolding settled
 returns-3 c =

@@ -5,74 +5,53 @@ use Rattle.envelope.specs.Ticks.{ticked, tickedIn}
 use borrow.Author.Needs.{needs}
 use Rattle.envelope.proofs.EnvGen.tick.Statement.{statement}
 use Rattle.envelope.proofs.EnvGen.tick.Tie as tie
-use Rattle.envelope.proofs.EnvGen.tick.Reads as reads
-use Rattle.envelope.proofs.EnvGen.tick.Lts as lts
-use Rattle.envelope.proofs.EnvGen.at.Reads as at-reads
-use Rattle.envelope.proofs.EnvGen.tick_attack.Reads as tick-attack-reads
-use Rattle.envelope.proofs.EnvGen.tick_decay.Reads as tick-decay-reads
-use Rattle.envelope.proofs.EnvGen.tick_release.Reads as tick-release-reads
 
 within : (e : EnvGen) (st : Stage) → e .stage ≡ st → tickedIn st e ≡ ticked e
 unfolding ticked
 within e st h = ap (λ (t : Stage). tickedIn t e) (sym h)
 
--- src/lib.rt:171:36
 enum-told : tie.Need-enum-told
 enum-told c = search needs
 
--- src/lib.rt:171:28
 at-requires : tie.Need-at-requires
 at-requires c κs = search needs
 
--- src/lib.rt:172:30
 enum-told-2 : tie.Need-enum-told-2
 enum-told-2 c = search needs
 
--- src/lib.rt:172:30
 tick-attack-requires : tie.Need-tick-attack-requires
 tick-attack-requires c κs = search needs
 
--- src/lib.rt:173:29
 enum-told-3 : tie.Need-enum-told-3
 enum-told-3 c = search needs
 
--- src/lib.rt:173:29
 tick-decay-requires : tie.Need-tick-decay-requires
 tick-decay-requires c κs = search needs
 
--- src/lib.rt:174:39
 enum-told-4 : tie.Need-enum-told-4
 enum-told-4 c = search needs
 
--- src/lib.rt:174:31
 at-requires-2 : tie.Need-at-requires-2
 at-requires-2 c κs = search needs
 
--- src/lib.rt:175:31
 enum-told-5 : tie.Need-enum-told-5
 enum-told-5 c = search needs
 
--- src/lib.rt:175:31
 tick-release-requires : tie.Need-tick-release-requires
 tick-release-requires c κs = search needs
 
--- src/lib.rt:166:5
 returns : tie.Need-returns
 returns c = c .at .ensures ∙ within _ _ (c .before .enum-told .given .1)
 
--- src/lib.rt:166:5
 returns-2 : tie.Need-returns-2
 returns-2 c = c .tick-attack .ensures ∙ within _ _ (c .before .enum-told2 .given .1)
 
--- src/lib.rt:166:5
 returns-3 : tie.Need-returns-3
 returns-3 c = c .tick-decay .ensures ∙ within _ _ (c .before .enum-told3 .given .1)
 
--- src/lib.rt:166:5
 returns-4 : tie.Need-returns-4
 returns-4 c = c .at2 .ensures ∙ within _ _ (c .before .enum-told4 .given .1)
 
--- src/lib.rt:166:5
 returns-5 : tie.Need-returns-5
 returns-5 c = c .tick-release .ensures ∙ within _ _ (c .before .enum-told5 .given .1)
 

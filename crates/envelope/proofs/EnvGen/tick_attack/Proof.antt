@@ -1,36 +1,27 @@
-use mathlib.Core.Path.{_≡_, sym, _∙_}
+use mathlib.Core.Path.{sym, _∙_}
 use Rattle.lists.specs.Choose.{cond-true, cond-false}
 use Rattle.envelope.specs.Ticks.{tickedAttack, rise}
 use borrow.Author.Needs.{needs}
 use Rattle.envelope.proofs.EnvGen.tick_attack.Statement.{statement}
 use Rattle.envelope.proofs.EnvGen.tick_attack.Tie as tie
-use Rattle.envelope.proofs.EnvGen.tick_attack.Reads as reads
-use Rattle.envelope.proofs.EnvGen.tick_attack.Lts as lts
-use Rattle.envelope.proofs.EnvGen.at.Reads as at-reads
 
--- src/lib.rt:183:13
 at-requires : tie.Need-at-requires
 at-requires c κs = search needs
 
--- src/lib.rt:183:13
 returns : tie.Need-returns
 unfolding tickedAttack
 returns c = c .at .ensures ∙ sym (cond-true _ _ _ (c .before .if1 .taken))
 
--- src/lib.rt:187:13
 at-requires-2 : tie.Need-at-requires-2
 at-requires-2 c κs = search needs
 
--- src/lib.rt:187:13
 returns-2 : tie.Need-returns-2
 unfolding tickedAttack rise
 returns-2 c = c .at2 .ensures ∙ sym (cond-false _ _ _ (c .before .before .before .before .if1 .left) ∙ cond-true _ _ _ (c .before .if2 .taken))
 
--- src/lib.rt:189:9
 at-requires-3 : tie.Need-at-requires-3
 at-requires-3 c κs = search needs
 
--- src/lib.rt:179:5
 returns-3 : tie.Need-returns-3
 unfolding tickedAttack rise
 returns-3 c = c .at3 .ensures ∙ sym (cond-false _ _ _ (c .before .before .before .before .if1 .left) ∙ cond-false _ _ _ (c .before .if2 .left))

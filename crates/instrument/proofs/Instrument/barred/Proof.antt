@@ -4,25 +4,18 @@ use Rattle.instrument.proofs.Calls.{barred-0, barred-1, barred-5}
 use borrow.Author.Needs.{needs}
 use Rattle.instrument.proofs.Instrument.barred.Statement.{statement}
 use Rattle.instrument.proofs.Instrument.barred.Tie as tie
-use Rattle.instrument.proofs.Instrument.barred.Reads as reads
-use Rattle.instrument.proofs.Instrument.barred.Lts as lts
-use Rattle.instrument.proofs.Instrument.well_formed.Reads as well-formed-reads
 
--- src/lib.rt:457:13
 well-formed-requires : tie.Need-well-formed-requires
 well-formed-requires c κs = search needs
 
--- src/lib.rt:458:13
 returns : tie.Need-returns
 returns c = barred-1 _ (sym (c .before .well-formed .ensures) ∙ not-true _ (c .if1 .taken))
 
--- src/lib.rt:461:13
 returns-2 : tie.Need-returns-2
 returns-2 c =
     let b = c .before .before in
     barred-0 _ (sym (b .before .well-formed .ensures) ∙ not-false _ (b .if1 .left)) (c .if2 .taken)
 
--- src/lib.rt:454:5
 returns-3 : tie.Need-returns-3
 returns-3 c =
     let b = c .before .before in

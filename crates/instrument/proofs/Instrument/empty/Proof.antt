@@ -4,15 +4,10 @@ use Rattle.instrument.specs.Calls.{emptyModel}
 use borrow.Author.Needs.{needs}
 use Rattle.instrument.proofs.Instrument.empty.Statement.{statement}
 use Rattle.instrument.proofs.Instrument.empty.Tie as tie
-use Rattle.instrument.proofs.Instrument.empty.Reads as reads
-use Rattle.instrument.proofs.Instrument.empty.Lts as lts
-use Rattle.instrument.proofs.no_voice.Reads as no-voice-reads
 
--- src/lib.rt:373:13
 no-voice-requires : tie.Need-no-voice-requires
 no-voice-requires c κs = search needs
 
--- src/lib.rt:370:5
 returns : tie.Need-returns
 unfolding view counted emptyModel
 returns c = (refl, refl)

@@ -5,24 +5,16 @@ use Rattle.instrument.proofs.Sizes.{voices-long}
 use borrow.Author.Needs.{needs}
 use Rattle.instrument.proofs.Instrument.is_active.Statement.{statement}
 use Rattle.instrument.proofs.Instrument.is_active.Tie as tie
-use Rattle.instrument.proofs.Instrument.is_active.Reads as reads
-use Rattle.instrument.proofs.Instrument.is_active.Lts as lts
-use Rattle.instrument.proofs.Instrument.well_formed.Reads as well-formed-reads
-use Rattle.voices.proofs.find_first.Reads as find-first-reads
 
--- src/lib.rt:608:13
 well-formed-requires : tie.Need-well-formed-requires
 well-formed-requires c κs = search needs
 
--- src/lib.rt:609:13
 returns : tie.Need-returns
 returns c = active-refused _ (sym (c .before .well-formed .ensures) ∙ not-true _ (c .if1 .taken)) _
 
--- src/lib.rt:613:13
 find-first-requires : tie.Need-find-first-requires
 find-first-requires c κs = search needs
 
--- src/lib.rt:605:5
 returns-2 : tie.Need-returns-2
 returns-2 c =
     let t = c .before in

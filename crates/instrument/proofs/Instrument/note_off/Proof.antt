@@ -4,29 +4,19 @@ use Rattle.instrument.proofs.Offs.{note-off-call}
 use borrow.Author.Needs.{needs}
 use Rattle.instrument.proofs.Instrument.note_off.Statement.{statement}
 use Rattle.instrument.proofs.Instrument.note_off.Tie as tie
-use Rattle.instrument.proofs.Instrument.note_off.Reads as reads
-use Rattle.instrument.proofs.Instrument.note_off.Lts as lts
-use Rattle.instrument.proofs.Instrument.barred.Reads as barred-reads
-use Rattle.instrument.proofs.Instrument.off.Reads as off-reads
-use Rattle.instrument.proofs.refused.Reads as refused-reads
 
--- src/lib.rt:708:13
 barred-requires : tie.Need-barred-requires
 barred-requires c κs = search needs
 
--- src/lib.rt:710:13
 refused-requires : tie.Need-refused-requires
 refused-requires c κs = search needs
 
--- src/lib.rt:710:13
 returns : tie.Need-returns
 returns c = barred-call _ _ _ _ refl (c .before .before .barred .ensures) (c .before .if1 .taken) (c .refused .ensures)
 
--- src/lib.rt:712:9
 off-requires : tie.Need-off-requires
 off-requires c κs = sym (c .before .barred .ensures) ∙ c .if1 .left
 
--- src/lib.rt:705:5
 returns-2 : tie.Need-returns-2
 returns-2 c =
     let b = c .before in

@@ -5,24 +5,16 @@ use Rattle.instrument.proofs.Sizes.{voices-long}
 use borrow.Author.Needs.{needs}
 use Rattle.instrument.proofs.Instrument.voice_of.Statement.{statement}
 use Rattle.instrument.proofs.Instrument.voice_of.Tie as tie
-use Rattle.instrument.proofs.Instrument.voice_of.Reads as reads
-use Rattle.instrument.proofs.Instrument.voice_of.Lts as lts
-use Rattle.instrument.proofs.Instrument.well_formed.Reads as well-formed-reads
-use Rattle.voices.proofs.find_first.Reads as find-first-reads
 
--- src/lib.rt:631:13
 well-formed-requires : tie.Need-well-formed-requires
 well-formed-requires c κs = search needs
 
--- src/lib.rt:632:13
 returns : tie.Need-returns
 returns c = voice-refused _ (sym (c .before .well-formed .ensures) ∙ not-true _ (c .if1 .taken)) _
 
--- src/lib.rt:636:13
 find-first-requires : tie.Need-find-first-requires
 find-first-requires c κs = search needs
 
--- src/lib.rt:638:13
 returns-2 : tie.Need-returns-2
 returns-2 c =
     let t = c .before .before in
@@ -30,7 +22,6 @@ returns-2 c =
     let s = b .before .before in
     voice-none (s .args .self) (sym (b .before .well-formed .ensures) ∙ not-false _ (b .if1 .left)) (voices-long (s .args .self) (s .good .0)) (s .args .note) _ (t .find-first .ensures .place) (c .if2 .taken)
 
--- src/lib.rt:628:5
 returns-3 : tie.Need-returns-3
 returns-3 c =
     let t = c .before .before in

@@ -5,69 +5,52 @@ use Rattle.instrument.proofs.Sizes.{voices-long, held-long}
 use borrow.Author.Needs.{needs}
 use Rattle.instrument.proofs.Instrument.well_formed.Statement.{statement}
 use Rattle.instrument.proofs.Instrument.well_formed.Tie as tie
-use Rattle.instrument.proofs.Instrument.well_formed.Reads as reads
-use Rattle.instrument.proofs.Instrument.well_formed.Lts as lts
-use Rattle.formed.proofs.tables_fit.Reads as tables-fit-reads
-use Rattle.instrument.proofs.block_fits.Reads as block-fits-reads
-use Rattle.instrument.proofs.is_accepted.Reads as is-accepted-reads
 
--- src/lib.rt:227:13
 returns : tie.Need-returns
 returns c =
     let s = c .before .before in
     unbounded (s .args .self) (voices-long (s .args .self) (s .good .0)) (held-long (s .args .self) (s .good .0)) _ 64 (λ p. p .voices64) (c .if1 .taken)
 
--- src/lib.rt:230:13
 returns-2 : tie.Need-returns-2
 returns-2 c =
     let s = c .before .before .before in
     unbounded (s .args .self) (voices-long (s .args .self) (s .good .0)) (held-long (s .args .self) (s .good .0)) _ 256 (λ p. p .held256) (c .if2 .taken)
 
--- src/lib.rt:232:13
 is-accepted-requires : tie.Need-is-accepted-requires
 is-accepted-requires c κs = search needs
 
--- src/lib.rt:233:13
 returns-3 : tie.Need-returns-3
 returns-3 c =
     let s = c .before .before .before .before .before in
     unformed (s .args .self) (voices-long (s .args .self) (s .good .0)) (held-long (s .args .self) (s .good .0)) _ (λ p. p .design) (sym (c .before .is-accepted .ensures) ∙ not-true _ (c .if3 .taken))
 
--- src/lib.rt:235:17
 cast-if4 : tie.Need-cast-if4
 cast-if4 c = search needs
 
--- src/lib.rt:235:12
 mul-if4 : tie.Need-mul-if4
 mul-if4 c = search needs
 
--- src/lib.rt:236:13
 returns-4 : tie.Need-returns-4
 returns-4 c =
     let s = c .before .before .before .before .before .before .before in
     unbounded (s .args .self) (voices-long (s .args .self) (s .good .0)) (held-long (s .args .self) (s .good .0)) _ _ (λ p. p .size) (c .if4 .taken)
 
--- src/lib.rt:239:13
 returns-5 : tie.Need-returns-5
 returns-5 c =
     let s = c .before .before .before .before .before .before .before .before .before in
     unbounded (s .args .self) (voices-long (s .args .self) (s .good .0)) (held-long (s .args .self) (s .good .0)) 1 _ (λ p. p .begun) (c .if5 .taken)
 
--- src/lib.rt:241:13
 block-fits-requires : tie.Need-block-fits-requires
 block-fits-requires c κs = search needs
 
--- src/lib.rt:242:13
 returns-6 : tie.Need-returns-6
 returns-6 c =
     let s = c .before .before .before .before .before .before .before .before .before .before .before in
     unformed (s .args .self) (voices-long (s .args .self) (s .good .0)) (held-long (s .args .self) (s .good .0)) _ (λ p. p .block) (sym (c .before .block-fits .ensures) ∙ not-true _ (c .if6 .taken))
 
--- src/lib.rt:244:9
 tables-fit-requires : tie.Need-tables-fit-requires
 tables-fit-requires c κs = search needs
 
--- src/lib.rt:220:5
 returns-7 : tie.Need-returns-7
 returns-7 c =
     let k = c .before .before .before in

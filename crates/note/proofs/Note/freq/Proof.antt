@@ -3,22 +3,16 @@ use Rattle.note.specs.Frequency.{freqOf}
 use borrow.Author.Needs.{needs}
 use Rattle.note.proofs.Note.freq.Statement.{statement}
 use Rattle.note.proofs.Note.freq.Tie as tie
-use Rattle.note.proofs.Note.freq.Reads as reads
-use Rattle.note.proofs.Note.freq.Lts as lts
 
--- src/lib.rt:57:14
 cast-result : tie.Need-cast-result
 cast-result c = search needs
 
--- src/lib.rt:57:9
 mul-result : tie.Need-mul-result
 mul-result c = search needs
 
--- src/lib.rt:57:9
 array-read-result : tie.Need-array-read-result
 array-read-result c = search needs
 
--- src/lib.rt:53:5
 returns : tie.Need-returns
 unfolding freqOf
 returns c = refl

@@ -1,7 +1,5 @@
 -- `ticks::ticks` is safe and ends: `i` counts up to n.
-use mathlib.Core.Path.{_≡_}
 use Prim.Native.Nat.{_≤_, _-_}
-use lib.ListN.{length}
 use borrow.Author.Needs.{needs}
 use Rattle.replay.proofs.ticks.ticks.Statement.{statement}
 use Rattle.replay.proofs.ticks.ticks.Tie as tie

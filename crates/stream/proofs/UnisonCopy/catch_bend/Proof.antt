@@ -3,19 +3,13 @@ use Rattle.lists.specs.Choose.{cond-true, cond-false}
 use borrow.Author.Needs.{needs}
 use Rattle.stream.proofs.UnisonCopy.catch_bend.Statement.{statement}
 use Rattle.stream.proofs.UnisonCopy.catch_bend.Tie as tie
-use Rattle.stream.proofs.UnisonCopy.catch_bend.Reads as reads
-use Rattle.stream.proofs.UnisonCopy.catch_bend.Lts as lts
-use Rattle.stream.proofs.UnisonCopy.set_bend.Reads as set-bend-reads
 
--- src/lib.rt:65:40
 set-bend-requires : tie.Need-set-bend-requires
 set-bend-requires c κs = search needs
 
--- src/lib.rt:62:5
 returns : tie.Need-returns
 returns c = sym (cond-true _ _ _ (c .if1 .taken))
 
--- src/lib.rt:62:5
 returns-2 : tie.Need-returns-2
 returns-2 c = c .set-bend .ensures ∙ sym (cond-false _ _ _ (c .before .if1 .left))
 

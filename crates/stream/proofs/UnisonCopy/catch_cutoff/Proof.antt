@@ -3,19 +3,13 @@ use Rattle.lists.specs.Choose.{cond-true, cond-false}
 use borrow.Author.Needs.{needs}
 use Rattle.stream.proofs.UnisonCopy.catch_cutoff.Statement.{statement}
 use Rattle.stream.proofs.UnisonCopy.catch_cutoff.Tie as tie
-use Rattle.stream.proofs.UnisonCopy.catch_cutoff.Reads as reads
-use Rattle.stream.proofs.UnisonCopy.catch_cutoff.Lts as lts
-use Rattle.stream.proofs.UnisonCopy.set_cutoff.Reads as set-cutoff-reads
 
--- src/lib.rt:71:46
 set-cutoff-requires : tie.Need-set-cutoff-requires
 set-cutoff-requires c κs = search needs
 
--- src/lib.rt:68:5
 returns : tie.Need-returns
 returns c = sym (cond-true _ _ _ (c .if1 .taken))
 
--- src/lib.rt:68:5
 returns-2 : tie.Need-returns-2
 returns-2 c = c .set-cutoff .ensures ∙ sym (cond-false _ _ _ (c .before .if1 .left))
 

@@ -6,11 +6,6 @@ use Rattle.stream.specs.Pitch.{glidedTo, pitched, coefficient, leastNorm
 use borrow.Author.Needs.{needs}
 use Rattle.stream.proofs.UnisonCopy.glide_pitch.Statement.{statement}
 use Rattle.stream.proofs.UnisonCopy.glide_pitch.Tie as tie
-use Rattle.stream.proofs.UnisonCopy.glide_pitch.Reads as reads
-use Rattle.stream.proofs.UnisonCopy.glide_pitch.Lts as lts
-use Rattle.float32.proofs.clamp.Reads as clamp-reads
-use Rattle.float32.proofs.is_nan.Reads as is-nan-reads
-use Rattle.float32.proofs.max.Reads as max-reads
 
 snaps : (x : Float) → isNan x ≡ true → one ≡ coefficient x
 unfolding coefficient
@@ -20,24 +15,19 @@ eases : (x : Float) → isNan x ≡ false → clampOf x leastNormal one ≡ coef
 unfolding coefficient
 eases x e = rw e
 
--- src/lib.rt:73:9
 max-requires : tie.Need-max-requires
 max-requires c κs = search needs
 
--- src/lib.rt:74:12
 is-nan-requires : tie.Need-is-nan-requires
 is-nan-requires c κs = search needs
 
--- src/lib.rt:76:13
 returns : tie.Need-returns
 unfolding glidedTo pitched
 returns c = rw (c .before .before .max .ensures, snaps _ (sym (c .before .is-nan .ensures) ∙ c .if1 .taken))
 
--- src/lib.rt:78:9
 clamp-requires : tie.Need-clamp-requires
 clamp-requires c κs = search needs
 
--- src/lib.rt:70:5
 returns-2 : tie.Need-returns-2
 unfolding glidedTo pitched
 returns-2 c = rw (c .before .before .before .max .ensures, c .clamp .ensures, eases _ (sym (c .before .before .is-nan .ensures) ∙ c .before .if1 .left))

@@ -2,15 +2,10 @@ use Rattle.stream.specs.Pitch.{bent, withBend}
 use borrow.Author.Needs.{needs}
 use Rattle.stream.proofs.UnisonCopy.set_bend.Statement.{statement}
 use Rattle.stream.proofs.UnisonCopy.set_bend.Tie as tie
-use Rattle.stream.proofs.UnisonCopy.set_bend.Reads as reads
-use Rattle.stream.proofs.UnisonCopy.set_bend.Lts as lts
-use Rattle.float32.proofs.max.Reads as max-reads
 
--- src/lib.rt:86:9
 max-requires : tie.Need-max-requires
 max-requires c κs = search needs
 
--- src/lib.rt:83:5
 returns : tie.Need-returns
 unfolding bent withBend
 returns c = rw (c .max .ensures)

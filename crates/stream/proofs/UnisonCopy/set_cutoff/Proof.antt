@@ -2,15 +2,10 @@ use Rattle.stream.specs.Pitch.{cutTo, withCutoff}
 use borrow.Author.Needs.{needs}
 use Rattle.stream.proofs.UnisonCopy.set_cutoff.Statement.{statement}
 use Rattle.stream.proofs.UnisonCopy.set_cutoff.Tie as tie
-use Rattle.stream.proofs.UnisonCopy.set_cutoff.Reads as reads
-use Rattle.stream.proofs.UnisonCopy.set_cutoff.Lts as lts
-use Rattle.float32.proofs.max.Reads as max-reads
 
--- src/lib.rt:93:13
 max-requires : tie.Need-max-requires
 max-requires c κs = search needs
 
--- src/lib.rt:90:5
 returns : tie.Need-returns
 unfolding cutTo withCutoff
 returns c = rw (c .max .ensures)
