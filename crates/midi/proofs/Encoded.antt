@@ -20,11 +20,11 @@ use Rattle.midi.proofs.Whole.{whole}
 
 status-fed : (scan : Scan) (q : ℕ) → 0x80 ≤ q → q ≤ 0xEF → fed scan q ≡ More (scanOf q Status)
 status-fed scan q p h =
-    fed-status scan q (under 0xF8 0xFF q (omega arith)) (under 0xF0 0xF7 q (omega arith)) (amid 0x80 0xEF q p h)
+    fed-status scan q (under 0xF8 0xFF q (omega arith)) (under 0xF0 0xF7 q (omega arith)) p (omega arith)
 
 data-fed : (q : ℕ) (part : Part) (b : ℕ) → 0x80 ≤ q → b < 0x80 → fed (scanOf q part) b ≡ dataByte q part b
 data-fed q part b p h =
-    fed-data (scanOf q part) b (under 0xF8 0xFF b (omega arith)) (under 0xF0 0xF7 b (omega arith)) (under 0x80 0xEF b h)
+    fed-data (scanOf q part) b h
     (ne-eqb q 0 (λ e. omega arith))
 
 module _ (scan : Scan) (q : ℕ) (p : 0x80 ≤ q) (h : q ≤ 0xEF) (rest : List ℕ) where

@@ -130,10 +130,18 @@ fn feed_data(status: u8, part: Part, byte: u8) -> Fed
     }
 }
 
-// Any byte: real-time, system common, status or data.
+// Any byte: data, as most are, real-time, system common or status.
 fn feed(scan: Scan, byte: u8) -> Fed
     ensures { λ r. ⌜ r ≡ fed scan byte ⌝ }
 {
+    let status = scan.status;
+    let part = scan.part;
+    if byte < 0x80 {
+        if status == 0 {
+            return Fed::More(scan);
+        }
+        return feed_data(status, part, byte);
+    }
     if within(0xF8, 0xFF, byte) {
         return Fed::More(scan);
     }
@@ -143,19 +151,10 @@ fn feed(scan: Scan, byte: u8) -> Fed
             part: Part::Nothing,
         });
     }
-    if within(0x80, 0xEF, byte) {
-        return Fed::More(Scan {
-            status: byte,
-            part: Part::Status,
-        });
-    }
-    let status = scan.status;
-    let part = scan.part;
-    if status == 0 {
-        Fed::More(scan)
-    } else {
-        feed_data(status, part, byte)
-    }
+    Fed::More(Scan {
+        status: byte,
+        part: Part::Status,
+    })
 }
 
 fn refuse(number: u8, cursor: Cursor) -> Outcome
