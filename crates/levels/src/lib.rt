@@ -1,7 +1,7 @@
 // The levels of one voice over up to 64 frames (the envelope's part of the Rust's `render_block`), by runs of one stage.
 // A run steps plain numbers as long as its stage lasts. The tick that leaves the stage is the envelope's own.
 
-ghost use Prim.Native.Nat.{_≤_, min};
+ghost use Prim.Native.Nat.{_≤_};
 ghost use mathlib.Core.Path.{_≡_};
 ghost use lib.ListN.{length};
 ghost use lib.Ieee.{le};
@@ -11,6 +11,7 @@ ghost use Rattle.levels.specs.Filled.{FilledAs};
 ghost use Rattle.levels.specs.Runs.{RunAs, slopeOf, up, down, always, atMost, never, SlopeAs};
 use envelope::EnvGen;
 use envelope::Stage;
+use lists::smaller;
 
 // The envelope behind the frames, and the levels of the frames with zeros behind them.
 pub struct Filled {
@@ -168,18 +169,11 @@ fn run_stage(e: EnvGen, gain: f32, trem: f32, from: usize, m: usize, buf: &mut [
     }
 }
 
-// The frames that the array has room for.
-fn room(m: usize) -> usize
-    ensures { λ r. ⌜ r ≡ min m 64 ⌝ }
-{
-    if m < 64 { m } else { 64 }
-}
-
 // A run, then the tick that ends it, until m frames are filled.
 pub fn fill(e: EnvGen, gain: f32, trem: f32, m: usize) -> Filled
     ensures { λ r. ⌜ FilledAs e gain trem m r ⌝ }
 {
-    let n = room(m);
+    let n = smaller(m, 64);
     let mut buf = [0.0f32; 64];
     let mut w = e;
     let mut f: usize = 0;

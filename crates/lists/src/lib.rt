@@ -1,4 +1,4 @@
-// Definitions and laws on lists that several crates cite: they stand in specs/. The code is what every pass over an array starts with.
+// Definitions and laws on lists: they stand in specs/. The code keeps a pass with a count inside its array.
 
 ghost use mathlib.Core.Path.{_≡_};
 ghost use Prim.Native.Nat.{min};

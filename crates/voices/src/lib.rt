@@ -3,23 +3,17 @@
 
 ghost use mathlib.Core.Path.{_≡_};
 ghost use mathlib.Core.Bool.{true};
-ghost use Prim.Native.Nat.{_*_, _≤_, min};
+ghost use Prim.Native.Nat.{_*_, _≤_};
 ghost use lib.Dec.{eqb};
 ghost use Rattle.lists.specs.Count.{oneIf, count};
 ghost use Rattle.voice.specs.Changes.{testOf};
 ghost use Rattle.voices.specs.View.{seenFirst, voicesOf};
 ghost use Rattle.voices.specs.Steal.{FoundFirst};
+use lists::smaller;
 use voice::Voice;
 use voice::VoiceTest;
 
 pub mod steal;
-
-// How far a pass over n voices goes.
-fn room(n: usize) -> usize
-    ensures { λ r. ⌜ r ≡ min n 64 ⌝ }
-{
-    if n < 64 { n } else { 64 }
-}
 
 fn one_if(b: bool) -> usize
     ensures { λ r. ⌜ r ≡ oneIf b ⌝ }
@@ -31,7 +25,7 @@ fn one_if(b: bool) -> usize
 pub fn count_of(vs: [Voice; 64], n: usize, test: VoiceTest) -> usize
     ensures { λ r. ⌜ r ≡ count (testOf test) (voicesOf (seenFirst n vs)) ⌝ }
 {
-    let m = room(n);
+    let m = smaller(n, 64);
     let mut k: usize = 0;
     let mut i: usize = 0;
     while i < m {
@@ -51,7 +45,7 @@ pub struct Found {
 pub fn find_first(vs: [Voice; 64], n: usize, test: VoiceTest) -> Found
     ensures { λ r. ⌜ FoundFirst (testOf test) (voicesOf (seenFirst n vs)) r ⌝ }
 {
-    let m = room(n);
+    let m = smaller(n, 64);
     let mut i: usize = 0;
     while i < m {
         if vs[i].passes(test) {

@@ -7,7 +7,7 @@ ghost use Rattle.lists.specs.Least.{lowestNext};
 ghost use Rattle.voices.specs.View.{seenFirst, voicesOf};
 ghost use Rattle.voices.specs.Steal.{StolenFrom};
 use crate::one_if;
-use crate::room;
+use lists::smaller;
 use voice::Voice;
 use voice::VoiceTest;
 
@@ -47,7 +47,7 @@ fn place_if(asked: bool, k: usize, end: usize) -> usize
 pub fn steal(vs: [Voice; 64], n: usize, max: usize) -> Stolen
     ensures { λ r. ⌜ StolenFrom (voicesOf (seenFirst n vs)) max r ⌝ }
 {
-    let m = room(n);
+    let m = smaller(n, 64);
     let mut sounding: usize = 0;
     let mut k: usize = 0;
     let mut q: usize = 0;

@@ -16,8 +16,8 @@ Inv-loop gain trem m n buf₀ w₀ f₀ buf w f = Within 0 n buf f × Ran w₀ g
 abbrev μ-loop : tie.MeasureT-loop
 μ-loop gain trem m n buf₀ w₀ f₀ buf w f = n - f
 
-room-requires : tie.Need-room-requires Inv-loop μ-loop
-room-requires c κs = search needs
+smaller-requires : tie.Need-smaller-requires Inv-loop μ-loop
+smaller-requires c κs = search needs
 
 loop-holds : tie.Need-loop-holds Inv-loop μ-loop
 loop-holds c = (within-start 0 _ _ (omega arith) refl, ran-none _ _ _ _ _)
@@ -66,8 +66,8 @@ returns : tie.Need-returns Inv-loop μ-loop
 returns c =
     let a = c .before in
     let i = a .loop .inv in
-    let e : a .loop .f ≡ a .before .room .result = omega arith in
-    filled _ _ _ _ _ _ _ (a .before .room .ensures) (i .0 .size) (rw e at (i .1))
+    let e : a .loop .f ≡ a .before .smaller .result = omega arith in
+    filled _ _ _ _ _ _ _ (a .before .smaller .ensures) (i .0 .size) (rw e at (i .1))
 
 pub fill-spec : {M : Type 1} → statement M
 fill-spec =
@@ -75,7 +75,7 @@ fill-spec =
     (tie.spec
     Inv-loop
     μ-loop
-    room-requires
+    smaller-requires
     loop-holds
     run-stage-requires
     tick-requires

@@ -17,8 +17,8 @@ Inv-loop n test vs m k₀ i₀ k i = (i ≤ m) × (k ≤ i) × (k ≡ count (tes
 abbrev μ-loop : tie.MeasureT-loop
 μ-loop n test vs m k₀ i₀ k i = m - i
 
-room-requires : tie.Need-room-requires Inv-loop μ-loop
-room-requires c κs = search needs
+smaller-requires : tie.Need-smaller-requires Inv-loop μ-loop
+smaller-requires c κs = search needs
 
 loop-holds : tie.Need-loop-holds Inv-loop μ-loop
 loop-holds c = search needs
@@ -72,7 +72,7 @@ count-of-spec =
     (tie.spec
     Inv-loop
     μ-loop
-    room-requires
+    smaller-requires
     loop-holds
     mul-passes
     array-copy-out-passes

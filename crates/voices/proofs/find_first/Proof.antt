@@ -19,8 +19,8 @@ Inv-loop n test vs m i₀ i = (i ≤ m) × (findAt (testOf test) (table n vs) �
 abbrev μ-loop : tie.MeasureT-loop
 μ-loop n test vs m i₀ i = m - i
 
-room-requires : tie.Need-room-requires Inv-loop μ-loop
-room-requires c κs = search needs
+smaller-requires : tie.Need-smaller-requires Inv-loop μ-loop
+smaller-requires c κs = search needs
 
 loop-holds : tie.Need-loop-holds Inv-loop μ-loop
 loop-holds c = (search needs, omega arith)
@@ -88,7 +88,7 @@ find-first-spec =
     (tie.spec
     Inv-loop
     μ-loop
-    room-requires
+    smaller-requires
     loop-holds
     mul-passes
     array-copy-out-passes

@@ -37,8 +37,8 @@ Inv-loop n max vs m sounding₀ k₀ q₀ i₀ c k q i =
 abbrev μ-loop : tie.MeasureT-loop
 μ-loop n max vs m sounding₀ k₀ q₀ i₀ c k q i = m - i
 
-room-requires : tie.Need-room-requires Inv-loop μ-loop
-room-requires c κs = search needs
+smaller-requires : tie.Need-smaller-requires Inv-loop μ-loop
+smaller-requires c κs = search needs
 
 loop-holds : tie.Need-loop-holds Inv-loop μ-loop
 loop-holds c = search needs
@@ -153,7 +153,7 @@ finish j handle e =
     (λ y. y .1 ∙ handle-at n vs (p .before .place-if .result) (let h = y .0 .taken in omega arith))
     (λ y. y .1 ∙ handle-past n vs (p .before .place-if .result) (let h = y .0 .left in omega (arith, size)))
     (j .if1 .came) in
-    stolen (table n vs) (s .args .max) (b .before .room .result) (b .loop .sounding) (b .loop .k) (b .loop .q) _ (omega (arith, size)) (v .4 ∙ ap (count sounding) all) (v .5 ∙ ap (lowest noVoice quieter sounding) all)
+    stolen (table n vs) (s .args .max) (b .before .smaller .result) (b .loop .sounding) (b .loop .k) (b .loop .q) _ (omega (arith, size)) (v .4 ∙ ap (count sounding) all) (v .5 ∙ ap (lowest noVoice quieter sounding) all)
     (v .6 ∙ ap (lowest noVoice quieter anyVoice) all) (p .before .place-if .ensures) (p .place-if2 .ensures) killed e
 
 returns : tie.Need-returns Inv-loop μ-loop
@@ -173,7 +173,7 @@ steal-spec =
     (tie.spec
     Inv-loop
     μ-loop
-    room-requires
+    smaller-requires
     loop-holds
     mul-v
     array-copy-out-v
