@@ -2,15 +2,15 @@
 use mathlib.Core.Path.{_≡_, refl, ap, sym, _∙_}
 use mathlib.Core.Bool.{Bool, true, _&&_, and-true}
 use mathlib.Core.List.{List, [], _∷_, map, flatMap, zipWith, map-map, append-nil}
-use Prim.Native.Nat.{ℕ, zero, suc, _*_}
+use Prim.Native.Nat.{ℕ, _*_}
 use native.Mathlib.Omega.{arith}
 use borrow.Author.Tests.{eqb-true}
 use lib.Dec.{eqb}
 use lib.Ieee.{Float}
-use lib.ListN.{length, take, set, getD, length-take}
+use lib.ListN.{length, take, getD, length-take}
 use Rattle.lists.specs.All.{all}
 use Rattle.lists.specs.Choose.{both}
-use Rattle.lists.specs.Parts.{no-length, flat-map}
+use Rattle.lists.specs.Parts.{front-one, flat-map}
 use Rattle.stream.specs.declared.UnisonCopy.{UnisonCopy}
 use Rattle.stream.specs.Pitch.{glided, curve, GlidedOver}
 use Rattle.model.specs.Voices.{withCopies, withVoice}
@@ -19,21 +19,6 @@ use Rattle.voice.specs.View.{shown, seen}
 use Rattle.voice.specs.Changes.{onSeen}
 use Rattle.voice.proofs.Sizes.{noCopy}
 use Rattle.curves.specs.Glides.{voiceCurve, WrittenVoice, GlidedCopies, single, withOnly, VoicesFit, GlidedVoices}
-
--- the only one of a front
-only : (n : ℕ) (cs : List UnisonCopy) → length (take n cs) ≡ 1 → take n cs ≡ getD cs 0 noCopy ∷ []
-only zero cs e = let z : ⊥ = omega arith in absurd z
-only (suc n) [] e = let z : ⊥ = omega arith in absurd z
-only (suc n) (x ∷ cs) e = ap (_∷_ x) (no-length (take n cs) (omega arith))
-
--- another in its place
-put : (n : ℕ) (cs : List UnisonCopy) (c : UnisonCopy) → length (take n cs) ≡ 1 → take n (set cs 0 c) ≡ c ∷ []
-put zero cs c e = let z : ⊥ = omega arith in absurd z
-put (suc n) [] c e = let z : ⊥ = omega arith in absurd z
-put (suc n) (x ∷ cs) c e = ap (_∷_ c) (no-length (take n cs) (omega arith))
-
-pub put-only : (n : ℕ) (cs : List UnisonCopy) (c : UnisonCopy) → length (take n cs) ≡ 1 → take n (set cs 0 c) ≡ map (λ _. c) (take n cs)
-put-only n cs c e = put n cs c e ∙ ap (map (λ _. c)) (sym (only n cs e))
 
 abbrev pub first : Voice → UnisonCopy
 first v = getD (v .copies) 0 noCopy
@@ -46,16 +31,16 @@ module _ (v : Voice) (long : length (v .copies) ≡ 8) (e : v .«copy_count» �
 
   pub only-one : take (v .«copy_count») (v .copies) ≡ first v ∷ []
   unfolding shown
-  only-one = only (v .«copy_count») (v .copies) one-shown
+  only-one = front-one (v .«copy_count») (v .copies) noCopy one-shown
 
 module _ (n : ℕ) (v : Voice) (one : length (shown v .copies) ≡ 1) where
   only-glides : (c : UnisonCopy) → c ≡ glided n (first v) → onSeen (withCopies (λ _. c)) (seen v) ≡ onSeen (withCopies (glided n)) (seen v)
   unfolding seen shown onSeen withCopies withVoice
-  only-glides c e = rw (only (v .«copy_count») (v .copies) one, e)
+  only-glides c e = rw (front-one (v .«copy_count») (v .copies) noCopy one, e)
 
   only-curve : curve n (first v) ≡ voiceCurve n v
   unfolding shown flatMap
-  only-curve = rw (only (v .«copy_count») (v .copies) one) (sym (append-nil (curve n (first v))))
+  only-curve = rw (front-one (v .«copy_count») (v .copies) noCopy one) (sym (append-nil (curve n (first v))))
 
   -- its numbers in a curve of this size, and of another
   pub only-written : {old new : List Float} {d : UnisonCopy} → length old ≡ n → GlidedOver (first v) old new d → WrittenVoice n v old new

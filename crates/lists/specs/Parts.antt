@@ -6,7 +6,7 @@ use Prim.Native.Nat.{ℕ, zero, suc, _+_, _-_, _*_, _≤_, _<_}
 use native.Mathlib.Nat.{mul-suc}
 use native.Mathlib.Omega.{arith}
 use lib.ListN.{length, take, drop, getD, set, replicate, length-append, length-take, length-drop, length-set}
-use lib.Seq.{take-all, take-at, take-take, drop-append-seam, drop-drop, drop-cons, drop-set-lt, getD-set-same}
+use lib.Seq.{take-all, take-at, take-take, drop-append-seam, drop-drop, drop-cons, drop-set-lt, drop-set-add, take-set-le, getD-set-same}
 use Rattle.lists.specs.Prefix.{take-more}
 
 module _ {A : Type 0} where
@@ -67,9 +67,26 @@ module _ {A : Type 0} where
       ∙ ap (λ (y : A). y ∷ drop (suc k) (set l k x)) (getD-set-same l k x x h)
       ∙ ap (_∷_ x) (drop-set-lt (suc k) l k x (omega arith))
 
+  -- a store behind a part leaves it
+  pub part-set : (at k i : ℕ) (x : A) (l : List A) → at + k ≤ i → take k (drop at (set l i x)) ≡ take k (drop at l)
+  part-set at k i x l h =
+      let e : at + (i - at) ≡ i = omega arith in
+      ap (λ (j : ℕ). take k (drop at (set l j x))) (sym e) ∙ ap (take k) (drop-set-add at l (i - at) x) ∙ take-set-le k (drop at l) (i - at) x (omega arith)
+
   pub no-length : (l : List A) → length l ≡ 0 → l ≡ []
   no-length [] e = refl
   no-length (x ∷ l) e = let z : ⊥ = omega arith in absurd z
+
+  -- a front of one element, and what a store there makes of it
+  pub front-one : (n : ℕ) (xs : List A) (d : A) → length (take n xs) ≡ 1 → take n xs ≡ getD xs 0 d ∷ []
+  front-one zero xs d e = let z : ⊥ = omega arith in absurd z
+  front-one (suc n) [] d e = let z : ⊥ = omega arith in absurd z
+  front-one (suc n) (x ∷ xs) d e = ap (_∷_ x) (no-length (take n xs) (omega arith))
+
+  pub front-put : (n : ℕ) (xs : List A) (a : A) → length (take n xs) ≡ 1 → take n (set xs 0 a) ≡ map (λ _. a) (take n xs)
+  front-put zero xs a e = let z : ⊥ = omega arith in absurd z
+  front-put (suc n) [] a e = let z : ⊥ = omega arith in absurd z
+  front-put (suc n) (x ∷ xs) a e = rw (no-length (take n xs) (omega arith))
 
   pub length-snoc : (xs : List A) (a : A) (k : ℕ) → length xs ≡ k → length (xs ++ (a ∷ [])) ≡ suc k
   length-snoc xs a k e = let b = length-append xs (a ∷ []) in omega arith

@@ -1,6 +1,6 @@
 use mathlib.Core.List.{flatMap, List, map}
 use mathlib.Core.Path.{_≡_, refl, ap, sym, _∙_}
-use Prim.Native.Nat.{_*_, min, _≤_, _-_, _+_}
+use Prim.Native.Nat.{_*_, min, _≤_, _<_, _-_, _+_}
 use native.Mathlib.Nat.{mul-zero}
 use native.Mathlib.Omega.{arith}
 use borrow.Author.Needs.{needs}
@@ -30,13 +30,22 @@ module _ (s : tie.Start Inv-loop μ-loop) where
   all-eight : s .args .count ≡ 8 → take (s .args .count) (s .args .t1) ≡ s .args .t1
   all-eight e = take-all (s .args .count) (s .args .t1) (let l = eight in omega arith)
 
+-- at a turn
+module _ (b : tie.At-loop Inv-loop μ-loop) where
+  abbrev begun : tie.Start Inv-loop μ-loop
+  begun = b .before .before .before .before .before .before
+
+  -- a copy more leaves one part less
+  left : b .loop .j < b .before .smaller .result → b .loop .at + begun .args .frames + begun .args .frames * (b .before .smaller .result - (b .loop .j + 1)) ≡ length (begun .args .curve .now)
+  left h = parts-left (b .loop .at) (begun .args .frames) (b .before .smaller .result) (b .loop .j) _ h (b .loop .inv .2)
+
 -- where four copies go together
 module _ (d : tie.Else2 Inv-loop μ-loop) where
   abbrev turn : tie.At-loop Inv-loop μ-loop
   turn = d .before .before .before .before
 
   abbrev start : tie.Start Inv-loop μ-loop
-  start = turn .before .before .before .before .before .before
+  start = begun turn
 
   -- their places
   places : (turn .loop .j + 4 ≤ turn .before .smaller .result) × (turn .before .smaller .result ≤ 8)
@@ -102,9 +111,8 @@ alone-requires c κs = search needs
 
 add-end : tie.Need-add-end Inv-loop μ-loop
 add-end c =
-    let b = c .before .before .before .before in
-    let left = parts-left (b .loop .at) (b .before .before .before .before .before .before .args .frames) (b .before .smaller .result) (b .loop .j) _ (omega arith) (b .loop .inv .2) in
-    omega (arith, left)
+    let l = left (c .before .before .before .before) (omega arith) in
+    omega (arith, l)
 
 mul-glide-one : tie.Need-mul-glide-one Inv-loop μ-loop
 mul-glide-one c = omega arith
@@ -123,9 +131,8 @@ part-glide-one-start c = search needs
 
 part-glide-one-end : tie.Need-part-glide-one-end Inv-loop μ-loop
 part-glide-one-end c =
-    let b = c .before .before .before .before .before in
-    let left = parts-left (b .loop .at) (b .before .before .before .before .before .before .args .frames) (b .before .smaller .result) (b .loop .j) _ (omega arith) (b .loop .inv .2) in
-    omega (arith, left)
+    let l = left (c .before .before .before .before .before) (omega arith) in
+    omega (arith, l)
 
 glide-one-requires : tie.Need-glide-one-requires Inv-loop μ-loop
 glide-one-requires c κs = search needs
@@ -146,21 +153,21 @@ loop-again : tie.Need-loop-again Inv-loop μ-loop
 loop-again c =
     let g = c .before .before in
     let b = g .before .before .before .before .before .before .before in
-    let s = b .before .before .before .before .before .before in
+    let s = begun b in
     let a = s .args in
     let f = glided (a .frames) in
     let j = b .loop .j in
     let at = b .loop .at in
     let inv = b .loop .inv in
     let len = eight s in
-    let left = parts-left at (a .frames) (b .before .smaller .result) j _ (omega arith) (inv .2) in
+    let l = left b (omega arith) in
     let e : at + a .frames - at ≡ a .frames = omega arith in
-    let h : at + a .frames ≤ length (b .loop .curve) = omega (arith, left) in
+    let h : at + a .frames ≤ length (b .loop .curve) = omega (arith, l) in
     let u = getD (a .t1) j noCopy in
     let here : getD (b .loop .cs) j noCopy ≡ u = ap (λ (l : List UnisonCopy). getD l j noCopy) (inv .3) ∙ mapped-next f (a .t1) j noCopy (omega arith) in (
       omega arith,
       c .before .curve2 .given .1 ∙ inv .1,
-      left,
+      l,
       ap (λ (l : List UnisonCopy). set l j (g .glide-one .result)) (inv .3) ∙ ap (set (mapped f j (a .t1)) j) (copy-glides at (at + a .frames - at) (a .frames) (b .loop .curve) e h (g .glide-one .ensures) ∙ ap f here) ∙ mapped-more f (a .t1) j noCopy (omega arith),
       copy-writes at (at + a .frames - at) (a .frames) (b .loop .curve) e h (g .glide-one .ensures) ∙ rw (inv .4, here) (sym (flat-more (curveOf (a .frames)) (a .t1) j noCopy (omega arith))),
     )
@@ -279,7 +286,7 @@ loop-again-2 c =
     let d = c .before .before .before .before .before .before .before .before .before .before .before .before in
     let b = turn d in
     let a = start d .args in
-    let len = eight (b .before .before .before .before .before .before) in
+    let len = eight (start d) in
     let inv = b .loop .inv in
     let m = places d .0 in
     let room : b .loop .j + 4 ≤ length (a .t1) = omega (arith, m, len) in
@@ -298,7 +305,7 @@ same-length-2 c = c .before .loop .inv .1
 returns-2 : tie.Need-returns-2 Inv-loop μ-loop
 returns-2 c =
     let b = c .before in
-    let s = b .before .before .before .before .before .before in
+    let s = begun b in
     let a = s .args in
     let f = glided (a .frames) in
     let n = min (a .count) 8 in
