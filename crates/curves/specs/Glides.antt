@@ -5,13 +5,12 @@ use mathlib.Core.List.{List, [], _∷_, map, flatMap}
 use Prim.Native.Nat.{ℕ, _+_, _*_}
 use lib.Dec.{eqb}
 use lib.Ieee.{Float}
-use lib.ListN.{length, set}
-use Rattle.lists.specs.All.{all}
+use lib.ListN.{length, set, getD}
 use Rattle.stream.specs.declared.UnisonCopy.{UnisonCopy}
 use Rattle.stream.specs.Pitch.{glided, curve}
 use Rattle.model.specs.Voices.{withCopies}
 use Rattle.voice.specs.declared.Voice.{Voice}
-use Rattle.voice.specs.View.{shown, Seen, seen}
+use Rattle.voice.specs.View.{shown, seen, noCopy}
 use Rattle.voice.specs.Changes.{onSeen}
 
 -- numbers that are stored n places apart, the first at `at`
@@ -57,16 +56,25 @@ pub record WrittenVoice (frames : ℕ) (v : Voice) (old new : List Float) : Type
 abbrev pub single : Voice → Bool
 single v = eqb (length (shown v .copies)) 1
 
--- a voice of one copy, with another in its place
-abbrev pub withOnly : Voice → UnisonCopy → Seen
-withOnly v c = onSeen (withCopies (λ _. c)) (seen v)
+-- the first copy of a voice
+abbrev pub headOf : Voice → UnisonCopy
+headOf v = getD (v .copies) 0 noCopy
 
--- one copy each, and a curve of n numbers for each
-abbrev pub VoicesFit : ℕ → List Voice → List Float → Type 0
-VoicesFit frames vs old = (all single vs ≡ true) × (frames * length vs ≡ length old)
+-- the voice with another first copy
+unfoldable pub withHead : Voice → UnisonCopy → Voice
+withHead v c = record {
+  handle = v .handle;
+  note = v .note;
+  copies = set (v .copies) 0 c;
+  «copy_count» = v .«copy_count»;
+  «built_hz» = v .«built_hz»;
+  env = v .env;
+  gain = v .gain;
+  releasing = v .releasing;
+  sustained = v .sustained;
+}
 
--- such voices and their part of the curve, n samples later; else all is left as it is
-pub record GlidedVoices (frames : ℕ) (vs ws : List Voice) (old new : List Float) : Type 0 where
-  pub voices : VoicesFit frames vs old → map seen ws ≡ map (onSeen (withCopies (glided frames))) (map seen vs)
-  pub numbers : VoicesFit frames vs old → new ≡ flatMap (voiceCurve frames) vs
-  pub other : (VoicesFit frames vs old → ⊥) → (ws ≡ vs) × (new ≡ old)
+-- copies and their part of the curve, n samples later; a part of another size, and the copies with it, are left as they are
+pub record GlidedHeads (frames : ℕ) (cs ds : List UnisonCopy) (old new : List Float) : Type 0 where
+  pub glided : frames * length cs ≡ length old → GlidedCopies frames cs ds new
+  pub other : (frames * length cs ≡ length old → ⊥) → (ds ≡ cs) × (new ≡ old)

@@ -1,15 +1,12 @@
 // Plan's glide of a voice: each copy writes its pitch numbers (the Rust's `glide_block`, copy by copy).
 
 ghost use mathlib.Core.Path.{_≡_};
-ghost use mathlib.Core.Bool.{true, false, _&&_};
-ghost use mathlib.Core.List.{map, zipWith};
+ghost use mathlib.Core.Bool.{true, false};
+ghost use mathlib.Core.List.{map};
 ghost use Prim.Native.Nat.{_+_, _*_, _≤_, _<_};
-ghost use lib.Dec.{eqb};
 ghost use lib.ListN.{length, take, replicate};
-ghost use Rattle.lists.specs.All.{all};
 ghost use Rattle.stream.specs.Pitch.{glideStep, stepped, heard as heardOf, GlidedOver};
-ghost use Rattle.voice.specs.View.{shown, seen};
-ghost use Rattle.curves.specs.Glides.{column, GlidedCopies, StandAs, StandsAs, GlidedVoice, WrittenVoice, single, withOnly, GlidedVoices};
+ghost use Rattle.curves.specs.Glides.{column, GlidedCopies, StandAs, StandsAs, GlidedVoice, WrittenVoice, headOf, withHead, GlidedHeads};
 use lists::smaller;
 use stream::UnisonCopy;
 use voice::Voice;
@@ -269,63 +266,29 @@ pub fn write_voice(v: Voice, frames: usize, curve: &mut [f32])
     }
 }
 
-fn each_is_one(a: usize, b: usize, c: usize, d: usize) -> bool
-    ensures { λ r. ⌜ r ≡ (eqb a 1 && (eqb b 1 && (eqb c 1 && eqb d 1))) ⌝ }
+// The first copy of a voice.
+fn head(v: Voice) -> UnisonCopy
+    ensures { λ r. ⌜ r ≡ headOf v ⌝ }
 {
-    if a != 1 {
-        return false;
-    }
-    if b != 1 {
-        return false;
-    }
-    if c != 1 {
-        return false;
-    }
-    d == 1
+    v.copies[0]
 }
 
-// A voice of one copy, with another in its place.
-fn with_copy(mut v: Voice, copy: UnisonCopy) -> Voice
-    requires { ⌜ length (shown v .copies) ≡ 1 ⌝ }
-    ensures { λ r. ⌜ seen r ≡ withOnly v copy ⌝ }
+// The voice with another first copy.
+pub fn with_head(mut v: Voice, copy: UnisonCopy) -> Voice
+    ensures { λ r. ⌜ r ≡ withHead v copy ⌝ }
 {
     v.copies[0] = copy;
     v
 }
 
-// Four voices of one copy each, with others in their places.
-fn with_copies(vs: [Voice; 4], four: [UnisonCopy; 4]) -> [Voice; 4]
-    requires { ⌜ all single vs ≡ true ⌝ }
-    ensures { λ r. ⌜ map seen r ≡ zipWith withOnly vs four ⌝ }
+// The first copies of four voices `frames` samples later; they fill the curve, one after the other. A curve of another size is left as
+// it is. Whole voices are slow to move, so Plan puts the copies back by itself.
+pub fn glide_heads(vs: [Voice; 4], frames: usize, curve: &mut [f32]) -> [UnisonCopy; 4]
+    ensures { λ r. ⌜ GlidedHeads frames (map headOf vs) r (now (curve .entry)) (now (curve .exit)) ⌝ }
 {
-    [
-        with_copy(vs[0], four[0]),
-        with_copy(vs[1], four[1]),
-        with_copy(vs[2], four[2]),
-        with_copy(vs[3], four[3]),
-    ]
-}
-
-// Four voices of one copy each `frames` samples later; their copies fill the curve, one after the other. Voices of other counts,
-// and a curve of another size, are left as they are.
-pub fn glide_voices(vs: [Voice; 4], frames: usize, curve: &mut [f32]) -> [Voice; 4]
-    ensures { λ r. ⌜ GlidedVoices frames vs r (now (curve .entry)) (now (curve .exit)) ⌝ }
-{
-    let a = vs[0];
-    let b = vs[1];
-    let c = vs[2];
-    let d = vs[3];
-    if !each_is_one(
-        a.copies_shown(),
-        b.copies_shown(),
-        c.copies_shown(),
-        d.copies_shown(),
-    ) {
-        return vs;
-    }
+    let heads = [head(vs[0]), head(vs[1]), head(vs[2]), head(vs[3])];
     if !voices::fills(frames, 4, curve.len()) {
-        return vs;
+        return heads;
     }
-    let four = [a.copies[0], b.copies[0], c.copies[0], d.copies[0]];
-    with_copies(vs, glide_four(four, frames, curve))
+    glide_four(heads, frames, curve)
 }

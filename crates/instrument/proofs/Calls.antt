@@ -1,25 +1,60 @@
 -- From the checks and the parts of a call to what the call promises.
-use mathlib.Core.Path.{_≡_, refl, ap, sym, _∙_}
-use mathlib.Core.Bool.{Bool, true, false, not, _&&_}
+use mathlib.Core.Path.{_≡_, refl, ap, sym, subst, _∙_}
+use mathlib.Core.Bool.{Bool, true, false, not, _&&_, and-true, and-false}
 use mathlib.Core.List.{List}
 use Prim.Native.Nat.{ℕ, _≤_}
 use native.Mathlib.Omega.{arith}
 use borrow.Author.Tests.{leb-true, le-leb, eq-eqb, ne-eqb, eqb-true}
 use lib.Dec.{leb, eqb}
 use Rattle.lists.specs.Choose.{both, cond-true, cond-false}
+use Rattle.design.specs.declared.PlayMode.{PlayMode}
+use Rattle.design.specs.declared.PlayMode.the-variants.{Poly, Mono}
 use Rattle.model.specs.Types as M
 use Rattle.model.specs.Changes.{placed}
-use Rattle.model.specs.Formed.{wellFormed}
+use Rattle.model.specs.Formed.{wellFormed, blockFits, modeFits}
 use Rattle.model.specs.Step.{isMix, noBlock, blockOpen, blockMissing, framesOutside, lengthWrong, handleDue, handlesSpent, refusal, accepted, step}
 use Rattle.voices.specs.View.{seenFirst, voicesOf, inRoom}
 use Rattle.voice.specs.declared.Voice.{Voice}
 use Rattle.formed.specs.Held.{heldFirst}
 use Rattle.instrument.specs.View.{view, counted, formed}
-use Rattle.instrument.specs.Calls.{replyOf, refusalOf, replyTo, CallAs, Gives, answeredAs, refusedAs, barredBy, placedAs, StepAs}
+use Rattle.instrument.specs.Calls.{replyOf, refusalOf, replyTo, CallAs, Gives, answeredAs, refusedAs, barredBy, placedAs, blockedAs, withFrames, StepAs}
 use Rattle.instrument.specs.declared.Instrument.{Instrument}
 use Rattle.formed.specs.declared.Held.{Held}
+use Rattle.instrument.proofs.Parts.{open-none}
 use Rattle.instrument.specs.declared.Outcome.{Outcome}
 use Rattle.instrument.specs.declared.Reply.{Reply}
+
+-- ---- check 1 of a state whose block was taken out
+
+module _ (s : Instrument) (n : ℕ) (z : s .frames ≡ 0) where
+  mode-same : modeFits (view (withFrames s n) .design .mode) (view (withFrames s n)) ≡ modeFits (view s .design .mode) (view s)
+  unfolding view blockedAs modeFits
+  mode-same = by (s .design .mode)
+    where
+      by : (m : PlayMode) → modeFits m (view (withFrames s n)) ≡ modeFits m (view s)
+      by Poly = refl
+      by (Mono legato) = refl
+
+  -- of its block check 1 asks that the frames are within the limits, and no more
+  pub reopened : formed (withFrames s n) ≡ (formed s && blockFits (s .design) n)
+  unfolding formed counted wellFormed view blockedAs
+  reopened = by (blockFits (s .design) n) refl
+    where
+      shut : blockFits (s .design) (s .frames) ≡ true
+      shut = sym (open-none (s .design) (s .frames) z)
+
+      by : (b : Bool) → blockFits (s .design) n ≡ b → formed (withFrames s n) ≡ (formed s && blockFits (s .design) n)
+      by true e = rw (e, shut, mode-same, and-true)
+      by false e = simp (e, and-false)
+
+  pub formed-not : formed s ≡ false → formed (withFrames s n) ≡ false
+  formed-not e = reopened ∙ rw e
+
+  pub formed-unfit : blockFits (s .design) n ≡ false → formed (withFrames s n) ≡ false
+  formed-unfit e = reopened ∙ rw (e, and-false)
+
+  pub formed-fit : formed s ≡ true → blockFits (s .design) n ≡ true → formed (withFrames s n) ≡ true
+  formed-fit e f = reopened ∙ rw (e, f)
 
 -- ---- what bars a call
 
@@ -50,6 +85,22 @@ free s e = by (formed s) refl (eqb (s .frames) 0) refl
     by true p true q = let f = both (counted s) (wellFormed (view s)) p in record { formed = p; counted = f .0; well = f .1; closed = eqb-true (s .frames) 0 q }
     by true p false q = let z : _≡_ {A = ℕ} 5 0 = rw (p, q) at e in let n : ⊥ = omega arith in absurd n
     by false p b q = let z : _≡_ {A = ℕ} 1 0 = rw p at e in let n : ⊥ = omega arith in absurd n
+
+-- a free state has no block: with its frames taken out it is the same
+module _ (x : Instrument) (f : Free x) where
+  pub shut : withFrames x 0 ≡ x
+  unfolding blockedAs
+  shut = ap (withFrames x) (sym (f .closed))
+
+  pub shut-free : Free (withFrames x 0)
+  shut-free = subst Free (sym shut) f
+
+  pub shut-passes : barredBy (withFrames x 0) ≡ 0
+  unfolding blockedAs
+  shut-passes = sym (barred-0 _ (shut-free .formed) refl)
+
+  pub of-shut : (c : M.Call) (r : Outcome) → CallAs (withFrames x 0) c r → CallAs x c r
+  of-shut c r = subst (λ (s : Instrument). CallAs s c r) shut
 
 module _ (s : Instrument) (c : M.Call) where
   -- a state that bars the call gives its number

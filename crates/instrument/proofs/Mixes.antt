@@ -2,7 +2,7 @@
 use mathlib.Core.Path.{_≡_, refl, ap, sym, _∙_}
 use mathlib.Core.Bool.{Bool, true, false, not, _||_}
 use mathlib.Core.List.{List, [], _∷_, _++_, map}
-use Prim.Native.Nat.{ℕ, _+_, _*_, _≤_, _<_}
+use Prim.Native.Nat.{ℕ, _+_, _*_, _-_, _≤_, _<_}
 use native.Mathlib.Omega.{arith}
 use borrow.Author.Tests.{le-leb, eq-eqb, ne-eqb, eqb-true, not-false}
 use lib.Dec.{eqb, leb}
@@ -14,12 +14,13 @@ use Rattle.lists.specs.All.{all-kept}
 use Rattle.lists.specs.Pass.{pass-start, maps-more}
 use Rattle.lists.specs.Prefix.{fold}
 use Rattle.float32.specs.Numbers.{zero as +0}
+use Rattle.envelope.specs.declared.EnvGen.{EnvGen}
 use Rattle.stream.specs.declared.UnisonCopy.{UnisonCopy}
 use Rattle.design.specs.declared.InstrumentDesign.{InstrumentDesign}
 use Rattle.model.specs.Types as M
 use Rattle.model.specs.Changes.{blocked}
 use Rattle.model.specs.Formed.{blockFits, wellFormed}
-use Rattle.model.specs.Voices.{agedVoice, isEnded, copiesIn}
+use Rattle.model.specs.Voices.{withVoice, aged, agedVoice, isEnded, copiesIn}
 use Rattle.model.specs.Mix.{Mixing, mixing, sideVoice, sideMix, interleave, onLeft, onRight, output, played, remaining, endedHandles, report, mixOf}
 use Rattle.model.specs.Step.{noBlock, blockOpen, blockMissing, handlesSpent, refusal}
 use Rattle.model.proofs.Refusals.{Passes, passes}
@@ -30,16 +31,15 @@ use Rattle.voice.proofs.Sizes.{pastEnd}
 use Rattle.voices.specs.View.{seenFirst, voicesOf, inRoom}
 use Rattle.voices.proofs.Changes.{map-seen, room-map}
 use Rattle.voices.proofs.Table.{table, table-size, in-table, read-here, rows-left}
-use Rattle.render.specs.Mixes.{Fits, AddedAs, FitsOut}
+use Rattle.render.specs.Mixes.{Fits, AddedAs, withEnv, FitsOut}
 use Rattle.render.proofs.Parts.{voice-more, first-sums}
-use Rattle.render.proofs.Retaining.{Retaining, goesOn, remaining-seen, retain-on, retain-not}
+use Rattle.render.proofs.Retaining.{Retaining, goesOn, remaining-seen, retain-here, retain-up, retain-not}
 use Rattle.instrument.specs.View.{view, counted, formed}
-use Rattle.instrument.specs.Calls.{refusalOf}
+use Rattle.instrument.specs.Calls.{refusalOf, blockedAs, withFrames}
 use Rattle.instrument.specs.Mixes.{MixAs, unmixedAs}
 use Rattle.instrument.specs.declared.Instrument.{Instrument}
 use Rattle.instrument.specs.declared.MixOutcome.{MixOutcome}
 use Rattle.instrument.specs.declared.MixReply.the-variants.{Mixed}
-use Rattle.instrument.proofs.States.{blockedAs}
 use Rattle.instrument.proofs.Formed.{tableOf}
 use Rattle.instrument.proofs.Calls.{counts, counted-of, refusal-in, refused-call, accepted-step}
 use Rattle.instrument.proofs.Plans.{Rows, frames-most, refused-lent, accepted-lent}
@@ -109,37 +109,44 @@ pub record Summed (s : Instrument) (xs left right : List Float) (p i : ℕ) : Ty
   pub onLeft : mixing (drop p xs) left ≡ sumsOf onLeft s xs i
   pub onRight : mixing (drop p xs) right ≡ sumsOf onRight s xs i
 
--- t is s with i voices aged, and those of them that have ended dropped and reported
-pub record Aged (s t : Instrument) (ended : List ℕ) (gone kept i : ℕ) : Type 0 where
-  pub others : t ≡ blockedAs s (t .voices) (s .«voice_count») (s .frames)
+-- t is s with no block open, i voices aged, and those of them that have ended dropped and reported
+pub record Aged (s t : Instrument) (ended : List ℕ) (gone i : ℕ) : Type 0 where
+  pub others : t ≡ blockedAs s (t .voices) (s .«voice_count») 0
+  pub kept : ℕ
   pub table : Retaining (map (onSeen (agedVoice (s .frames))) (seenFirst i (s .voices))) kept gone i (t .voices) ended (s .voices)
 
 -- another table in a state that had another one already
-retabled : (s t : Instrument) (ws : List Voice) (c f : ℕ) → t ≡ blockedAs s ws c f → (vs : List Voice) (k g : ℕ) → blockedAs t vs k g ≡ blockedAs s vs k g
+retabled : (s t : Instrument) (ws : List Voice) (c f : ℕ) → t ≡ blockedAs s ws c f → (vs : List Voice) (k : ℕ) → blockedAs t vs k (t .frames) ≡ blockedAs s vs k f
 unfolding blockedAs
-retabled s t ws c f e vs k g = rw e
+retabled s t ws c f e vs k = rw e
 
-pub aged-none : (s : Instrument) → Aged s s (replicate 64 0) 0 0 0
+pub aged-none : (s : Instrument) → Aged s (withFrames s 0) (replicate 64 0) 0 0
 unfolding blockedAs endedHandles
-aged-none s = record { others = refl; table = record { pass = pass-start seen _; report = refl; many = refl; few = omega arith } }
+aged-none s = record { others = refl; kept = 0; table = record { pass = pass-start seen _; report = refl; many = refl; few = omega arith; places = refl } }
 
 -- v is the voice that is read at i
-module _ (s : Instrument) (i : ℕ) (v : Voice) (len : length (s .voices) ≡ 64) (most : s .«voice_count» ≤ 64) (h : i < s .«voice_count») (read : v ≡ getD (s .voices) i pastEnd) where
-  module _ (xs left right : List Float) (p rows : ℕ) (r : rows ≡ length (shown v .copies)) (d : Summed s xs left right p i) where
+pub record Here (s : Instrument) (i : ℕ) (v : Voice) : Type 0 where
+  pub long : length (s .voices) ≡ 64
+  pub few : s .«voice_count» ≤ 64
+  pub inside : i < s .«voice_count»
+  pub read : v ≡ getD (s .voices) i pastEnd
+
+module _ {s : Instrument} {i : ℕ} {v : Voice} (h : Here s i v) where
+  module _ {xs left right : List Float} {p rows : ℕ} (r : rows ≡ length (shown v .copies)) (d : Summed s xs left right p i) where
     pub unused-next : p + s .frames * rows + s .frames * copiesIn (drop (i + 1) (table (s .«voice_count») (s .voices))) ≡ length xs
-    unused-next = rows-left (s .«voice_count») (s .voices) v i len (omega arith) read (s .frames) p _ rows r (d .unused)
+    unused-next = rows-left (s .«voice_count») (s .voices) v i (h .long) (omega arith) (h .read) (s .frames) p _ rows r (d .unused)
 
     pub voice-fits : s .frames ≤ 1024 → Fits v (s .frames) p xs left right
     voice-fits f =
         let a : p + s .frames * rows ≤ length xs = omega (arith, unused-next) in
         record { frames = f; inputs = rw r at a; leftSums = omega (arith, d .leftSize); rightSums = omega (arith, d .rightSize) }
 
-    pub summed-more : (left' right' : List Float) (w : Voice) → Fits v (s .frames) p xs left right → AddedAs v (s .frames) (s .trem) xs p left right left' right' w
+    pub summed-more : {left' right' : List Float} {env : EnvGen} → Fits v (s .frames) p xs left right → AddedAs v (s .frames) (s .trem) xs p left right left' right' env
         → length left' ≡ length left → length right' ≡ length right → Summed s xs left' right' (p + s .frames * rows) (i + 1)
-    summed-more left' right' w f a ll lr =
+    summed-more {left'} {right'} f a ll lr =
         let vs = table (s .«voice_count») (s .voices) in
-        let inside = in-table (s .«voice_count») (s .voices) v i len (omega arith) read in
-        let here = read-here (s .«voice_count») (s .voices) v i len (omega arith) read in
+        let inside = in-table (s .«voice_count») (s .voices) v i (h .long) (omega arith) (h .read) in
+        let here = read-here (s .«voice_count») (s .voices) v i (h .long) (omega arith) (h .read) in
         let zeros = mixing xs (replicate 1024 +0) in
         record {
           unused = unused-next;
@@ -149,22 +156,39 @@ module _ (s : Instrument) (i : ℕ) (v : Voice) (len : length (s .voices) ≡ 64
           onRight = voice-more onRight (s .frames) (s .trem) xs zeros vs p i rows right right' (shown v) inside here r (a .rightSums f) (d .onRight);
         }
 
-  module _ (t : Instrument) (ended : List ℕ) (gone kept : ℕ) (d : Aged s t ended gone kept i) (w : Voice) (e : seen w ≡ onSeen (agedVoice (s .frames)) (seen v)) where
+  -- w is v, aged, and stored where v stood
+  module _ {t : Instrument} {ended : List ℕ} {gone : ℕ} (d : Aged s t ended gone i) {env : EnvGen} (e : env ≡ aged (s .frames) (v .env)) {w : Voice} (q : w ≡ withEnv v env) where
     more : map (onSeen (agedVoice (s .frames))) (seenFirst (i + 1) (s .voices)) ≡ map (onSeen (agedVoice (s .frames))) (seenFirst i (s .voices)) ++ (seen w ∷ [])
-    more = maps-more (onSeen (agedVoice (s .frames))) seen (s .voices) i pastEnd (omega arith) ∙ rw (e, read)
+    unfolding seen shown onSeen agedVoice withVoice withEnv
+    more =
+        let f : seen w ≡ onSeen (agedVoice (s .frames)) (seen v) = rw (q, e) in
+        maps-more (onSeen (agedVoice (s .frames))) seen (s .voices) i pastEnd (omega arith) ∙ rw (f, h .read)
 
-    pub aged-on : not (isEnded (shown w)) ≡ true → Aged s (blockedAs t (set (t .voices) kept w) (t .«voice_count») (t .frames)) ended gone (kept + 1) (i + 1)
+    turned : (kept gone' : ℕ) (ended' : List ℕ) (vs : List Voice)
+        → Retaining (map (onSeen (agedVoice (s .frames))) (seenFirst i (s .voices)) ++ (seen w ∷ [])) kept gone' (i + 1) vs ended' (s .voices)
+        → Aged s (blockedAs t vs (t .«voice_count») (t .frames)) ended' gone' (i + 1)
     unfolding blockedAs
-    aged-on b =
+    turned kept gone' ended' vs r =
         let n : t .«voice_count» ≡ s .«voice_count» = ap (λ (u : Instrument). u .«voice_count») (d .others) in
-        let f : t .frames ≡ s .frames = ap (λ (u : Instrument). u .frames) (d .others) in
-        record {
-          others = rw (n, f) (retabled s t _ _ _ (d .others) (set (t .voices) kept w) (s .«voice_count») (s .frames));
-          table = rw more (retain-on w (d .table) b (omega arith));
-        }
+        record { others = rw n (retabled s t _ _ _ (d .others) vs (s .«voice_count»)); kept = kept; table = rw more r }
 
-    pub aged-not : not (isEnded (shown w)) ≡ false → Aged s t (set ended gone (w .handle)) (gone + 1) kept (i + 1)
-    aged-not b = record { others = d .others; table = rw more (retain-not w (d .table) b (omega arith)) }
+    module _ {on : Bool} (test : (x : M.Voice) → x .env ≡ env → on ≡ not (isEnded x)) where
+      tested : on ≡ not (isEnded (shown w))
+      unfolding shown withEnv
+      tested = test (shown w) (rw q)
+
+      pub aged-here : on ≡ true → gone ≤ 0 → Aged s (blockedAs t (set (t .voices) i w) (t .«voice_count») (t .frames)) ended gone (i + 1)
+      aged-here b z = turned _ _ _ _ (retain-here w (d .table) (sym tested ∙ b) (omega arith) (omega arith))
+
+      pub aged-up : on ≡ true → 0 < gone
+          → Aged s (blockedAs t (set (set (t .voices) i w) (i - gone) (getD (set (t .voices) i w) i pastEnd)) (t .«voice_count») (t .frames)) ended gone (i + 1)
+      aged-up b z = turned _ _ _ _ (retain-up w (d .table) (sym tested ∙ b) pastEnd z (omega arith))
+
+      pub aged-not : on ≡ false → Aged s (blockedAs t (set (t .voices) i w) (t .«voice_count») (t .frames)) (set ended gone (v .handle)) (gone + 1) (i + 1)
+      unfolding withEnv
+      aged-not b =
+          let n : w .handle ≡ v .handle = rw q in
+          rw (sym n) (turned _ _ _ _ (retain-not w (d .table) (sym tested ∙ b) (omega arith)))
 
 -- ---- the call
 
@@ -192,34 +216,34 @@ module _ (s : Instrument) (xs old : List Float) where
     summed-none = record { unused = omega (arith, lengths .0); leftSize = zeros; rightSize = zeros; onLeft = refl; onRight = refl }
 
     -- every voice is done
-    module _ (t : Instrument) (left right : List Float) (ended : List ℕ) (gone kept p i : ℕ) (n : i ≡ s .«voice_count») (len : length (s .voices) ≡ 64) (few : s .frames ≤ 1024) (u : Summed s xs left right p i) (a : Aged s t ended gone kept i) where
+    module _ {t : Instrument} {left right : List Float} {ended : List ℕ} {gone p i : ℕ} (n : i ≡ s .«voice_count») (len : length (s .voices) ≡ 64) (few : s .frames ≤ 1024) (u : Summed s xs left right p i) (a : Aged s t ended gone i) where
       abbrev done : List Seen
       done = map (onSeen (agedVoice (s .frames))) (tableOf s)
 
-      retained : Retaining done kept gone (s .«voice_count») (t .voices) ended (s .voices)
+      retained : Retaining done (a .kept) gone (s .«voice_count») (t .voices) ended (s .voices)
       retained = rw n at (a .table)
 
       -- the table after the block's frames
-      aged : voicesOf done ≡ played (view s)
+      later : voicesOf done ≡ played (view s)
       unfolding played view
-      aged = map-seen (agedVoice (s .frames)) (tableOf s)
+      later = map-seen (agedVoice (s .frames)) (tableOf s)
 
-      inside : counted (blockedAs s (t .voices) kept 0) ≡ true
+      inside : counted (blockedAs s (t .voices) (a .kept) 0) ≡ true
       unfolding counted blockedAs
       inside =
           let k = counts s (counted-of s _ e) in
           let m = retained .pass .order in
-          let room : inRoom (seenFirst kept (t .voices)) ≡ true =
+          let room : inRoom (seenFirst (a .kept) (t .voices)) ≡ true =
           ap inRoom (retained .pass .front) ∙ all-kept (λ (x : Seen). leb (x .count) 8) goesOn done (room-map (agedVoice (s .frames)) (tableOf s) ∙ k .room) in
-          rw (le-leb kept 64 (omega arith), le-leb (s .«held_count») 256 (k .held256)) room
+          rw (le-leb (a .kept) 64 (omega arith), le-leb (s .«held_count») 256 (k .held256)) room
 
-      closed : view (blockedAs s (t .voices) kept 0) ≡ mixOf (view s) xs .model
+      closed : view (blockedAs s (t .voices) (a .kept) 0) ≡ mixOf (view s) xs .model
       unfolding view blockedAs blocked mixOf
-      closed = ap (λ (vs : List M.Voice). blocked (view s) vs 0) (ap voicesOf (retained .pass .front) ∙ remaining-seen done ∙ ap remaining aged)
+      closed = ap (λ (vs : List M.Voice). blocked (view s) vs 0) (ap voicesOf (retained .pass .front) ∙ remaining-seen done ∙ ap remaining later)
 
       said : M.Reply.mixed gone ended ≡ mixOf (view s) xs .reply
       unfolding mixOf report
-      said = rw (retained .report, retained .many, aged)
+      said = rw (retained .report, retained .many, later)
 
       all-voices : take i (voicesOf (tableOf s)) ≡ voicesOf (tableOf s)
       all-voices = take-all i (voicesOf (tableOf s)) (omega (arith, table-size (s .«voice_count») (s .voices) len))
@@ -233,10 +257,11 @@ module _ (s : Instrument) (xs old : List Float) where
       out-fits = record { leftSums = omega (arith, u .leftSize); rightSums = omega (arith, u .rightSize); places = lengths .1 }
 
       pub mix-done : (new : List Float) (r : MixOutcome) → new ≡ interleave (take (s .frames) left) (take (s .frames) right)
-          → r ≡ record { reply = Mixed gone; ended = ended; state = blockedAs t (t .voices) kept 0 } → MixAs s xs old new r
+          → r ≡ record { reply = Mixed gone; ended = ended; state = blockedAs t (t .voices) (s .«voice_count» - gone) (t .frames) } → MixAs s xs old new r
       unfolding output view mixOf
       mix-done new r o q =
-          rw (q, retabled s t _ _ _ (a .others) (t .voices) kept 0)
+          let z : s .«voice_count» - gone ≡ a .kept = let y = retained .places in omega arith in
+          rw (q, z, retabled s t _ _ _ (a .others) (t .voices) (a .kept))
           (record {
             call = accepted-step s _ _ _ e said inside closed;
             nobody = λ z. absurd (z e);

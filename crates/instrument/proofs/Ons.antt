@@ -19,8 +19,8 @@ use Rattle.design.proofs.Limits.{voices-some, voices-most, copies-most}
 use Rattle.model.specs.Types as M
 use Rattle.model.specs.Changes.{placed}
 use Rattle.model.specs.Voices.{newVoice, killedVoice, sounding, changed, isPlace, firstSounding}
-use Rattle.model.specs.Notes.{velocityOf, isOff, noteOffOf, killedHandle, afterTaking, startedNote, silentNote, newNote, keptVoice, keptNote, goesOn, monoOn, noteOnIn, noteOnOf, newHandleIn, newHandleDue}
-use Rattle.model.specs.Step.{handlesSpent}
+use Rattle.model.specs.Notes.{velocityOf, isOff, killedHandle, afterTaking, startedNote, silentNote, newNote, keptVoice, keptNote, goesOn, monoOn, noteOnIn, noteOnOf, newHandleIn, newHandleDue}
+use Rattle.model.specs.Step.{blockOpen, blockMissing, handlesSpent, refusal, step}
 use Rattle.voice.specs.View.{Seen, seen}
 use Rattle.voices.specs.View.{seenFirst, voicesOf, inRoom}
 use Rattle.voice.specs.Changes.{onSeen, noSeen}
@@ -31,15 +31,15 @@ use Rattle.voices.proofs.Stealing.{taken-le, taken-inside, room-made, killed-is
 use Rattle.voices.specs.declared.Found.{Found}
 use Rattle.voices.specs.declared.steal.Stolen.{Stolen}
 use Rattle.formed.specs.Held.{heldFirst}
-use Rattle.instrument.specs.View.{view, formed}
-use Rattle.instrument.specs.Calls.{CallAs, Gives, answeredAs, refusedAs, placedAs, lastHandle, HeldOn, stayOn, spawnOn, editedBy, OnAs}
+use Rattle.instrument.specs.View.{view, counted, formed}
+use Rattle.instrument.specs.Calls.{refusalOf, replyTo, CallAs, Gives, answeredAs, refusedAs, placedAs, lastHandle, HeldOn, stayOn, spawnOn, editedBy, OnAs}
 use Rattle.formed.specs.Held.{WithNote}
 use Rattle.instrument.specs.declared.Instrument.{Instrument}
 use Rattle.formed.specs.declared.Held.{Held}
 use Rattle.instrument.specs.declared.Outcome.{Outcome}
 use Rattle.instrument.specs.declared.NoteOn.{NoteOn}
 use Rattle.instrument.specs.declared.Reply.the-variants.{Silent, Kept, Refused}
-use Rattle.instrument.proofs.Calls.{Free, counts, plain-call, gives-placed, refused-call, accepted-call, unrefused, spent}
+use Rattle.instrument.proofs.Calls.{Free, counts, gives-placed, refused-call, accepted-call, unrefused, spent}
 use Rattle.instrument.proofs.Controls.{changed-room, changed-voices}
 use Rattle.instrument.proofs.Formed.{tableOf, seen-long, voices-count, Parts, parts-of}
 
@@ -252,11 +252,27 @@ module _ (s : Instrument) (f : Free s) (lv : length (s .voices) ≡ 64) (lh : le
 
 -- ---- the call
 
-module _ (s : Instrument) (f : Free s) (n : ℕ) (v : Float) (built : Bool) (r : Outcome) where
-  pub on-off : isOff v ≡ true → Gives (noteOffOf (view s) n) r → CallAs s (M.Call.noteOn n v built) r
-  unfolding noteOnOf newHandleDue
-  on-off e g = plain-call s (M.Call.noteOn n v built) r f refl refl refl (rw e) (rw (cond-true _ _ _ e) g)
+-- a note-on at velocity 0 is the note-off
+module _ (s : Instrument) (n : ℕ) (v : Float) (built : Bool) (e : isOff v ≡ true) where
+  off-refusal : refusalOf s (M.Call.noteOn n v built) ≡ refusalOf s (M.Call.noteOff n)
+  unfolding refusalOf refusal blockOpen blockMissing handlesSpent newHandleDue
+  off-refusal = rw e
 
+  off-step : step (view s) (M.Call.noteOn n v built) ≡ step (view s) (M.Call.noteOff n)
+  unfolding step refusal blockOpen blockMissing handlesSpent newHandleDue noteOnOf
+  off-step = rw e
+
+  pub on-off : (r : Outcome) → CallAs s (M.Call.noteOff n) r → CallAs s (M.Call.noteOn n v built) r
+  unfolding replyTo
+  on-off r h =
+      record {
+        reply = h .reply ∙ ap (λ (o : M.Outcome). cond (counted s) (o .reply) (M.Reply.refused 1)) (sym off-step);
+        refused = λ q. h .refused (λ z. q (off-refusal ∙ z));
+        inRoom = λ z. h .inRoom (sym off-refusal ∙ z);
+        next = λ z. h .next (sym off-refusal ∙ z) ∙ ap (λ (o : M.Outcome). o .model) (sym off-step);
+      }
+
+module _ (s : Instrument) (f : Free s) (n : ℕ) (v : Float) (built : Bool) (r : Outcome) where
   module _ (e : isOff v ≡ false) (x : Float) (level : x ≡ velocityOf v) (o : NoteOn) (a : OnAs s n x built o) where
     due-is : handlesSpent (view s) (M.Call.noteOn n v built) ≡ o .spent
     unfolding handlesSpent newHandleDue view

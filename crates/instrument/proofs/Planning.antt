@@ -1,19 +1,20 @@
 -- Plan's pass over the table where it stands: what holds before each voice, and what a step makes of it.
 use mathlib.Core.Path.{_≡_, refl, ap, sym, _∙_}
 use mathlib.Core.Bool.{true}
-use mathlib.Core.List.{List, [], _∷_, _++_, map, flatMap, map-append, append-nil}
+use mathlib.Core.List.{List, [], _∷_, _++_, map, flatMap, zipWith, map-append, append-nil}
 use Prim.Native.Nat.{ℕ, suc, _+_, _-_, _*_, _≤_, _<_}
 use native.Mathlib.Nat.{mul-zero, mul-add}
 use native.Mathlib.Omega.{arith}
 use borrow.Author.Tests.{eqb-true}
 use lib.Ieee.{Float}
 use lib.ListN.{length, take, drop, set, getD, drop-of-length-le, length-map, take-append-drop}
-use lib.Seq.{take-all, take-add, drop-drop, set-getD, sets}
+use lib.Seq.{take-all, take-add, drop-drop, set-getD, getD-set-other, sets}
 use Rattle.lists.specs.All.{all, all-take, all-drop, all-map}
 use Rattle.lists.specs.Choose.{both}
 use Rattle.lists.specs.Parts.{part-length, part-size, part-front, part-take, reads, reads-eq, reads-all, flat-append, flat-map}
 use Rattle.lists.specs.Pass.{Pass, pass-start, pass-keeps}
 use Rattle.lists.specs.Prefix.{map-part}
+use Rattle.stream.specs.declared.UnisonCopy.{UnisonCopy}
 use Rattle.stream.specs.Pitch.{glided}
 use Rattle.model.specs.Types as M
 use Rattle.model.specs.Formed.{copiesFit}
@@ -21,14 +22,15 @@ use Rattle.model.specs.Voices.{withCopies, copiesIn}
 use Rattle.model.specs.Plan.{curves}
 use Rattle.model.proofs.Laws.{length-curves}
 use Rattle.voice.specs.declared.Voice.{Voice}
-use Rattle.voice.specs.View.{Seen, seen, shown}
+use Rattle.voice.specs.View.{Seen, seen, shown, noCopy}
 use Rattle.voice.specs.Changes.{onSeen}
 use Rattle.voice.proofs.Sizes.{pastEnd}
 use Rattle.voices.specs.View.{seenFirst, voicesOf}
 use Rattle.voices.proofs.Table.{table, table-size}
-use Rattle.curves.specs.Glides.{voiceCurve, Fits, GlidedVoice, WrittenVoice, single, VoicesFit, GlidedVoices}
+use Rattle.curves.specs.Glides.{voiceCurve, Fits, GlidedVoice, WrittenVoice, single, headOf, withHead, GlidedHeads}
+use Rattle.curves.proofs.Ones.{heads-glide}
+use Rattle.instrument.specs.Calls.{blockedAs}
 use Rattle.instrument.specs.declared.Instrument.{Instrument}
-use Rattle.instrument.proofs.States.{blockedAs}
 use Rattle.instrument.proofs.Plans.{copies-even}
 
 -- a voice n samples later
@@ -52,6 +54,24 @@ copies-append (x ∷ xs) ys = let h = copies-append xs ys in omega arith
 curves-seen : (frames : ℕ) (vs : List Voice) → flatMap (voiceCurve frames) vs ≡ curves frames (voicesOf (map seen vs))
 unfolding curves seen
 curves-seen frames vs = sym (flat-map _ (λ (x : Seen). x .voice) (map seen vs) ∙ flat-map _ seen vs)
+
+module _ {A : Type 0} (o : A) where
+  behind : (l : List A) (i j : ℕ) (x : A) → i < j → getD (set l i x) j o ≡ getD l j o
+  behind l i j x h = getD-set-other l i j x o (λ e. omega arith)
+
+  -- four elements, each put back changed before the next is read
+  four-puts : {B : Type 0} (f : A → B → A) (l : List A) (i : ℕ) (ds : List B) (n : B) → length ds ≡ 4 → (a b c d : A) → a ≡ f (getD l i o) (getD ds 0 n) → b ≡ f (getD (set l i a) (suc i) o) (getD ds 1 n)
+      → c ≡ f (getD (set (set l i a) (suc i) b) (suc (suc i)) o) (getD ds 2 n) → d ≡ f (getD (set (set (set l i a) (suc i) b) (suc (suc i)) c) (suc (suc (suc i))) o) (getD ds 3 n)
+      → a ∷ b ∷ c ∷ d ∷ [] ≡ zipWith f (reads l i 4 o) ds
+  unfolding zipWith
+  four-puts f l i ds n e a b c d ea eb ec ed =
+      let l1 = set l i a in
+      let l2 = set l1 (suc i) b in
+      let b1 : getD l1 (suc i) o ≡ getD l (suc i) o = behind l i _ a (omega arith) in
+      let c1 : getD l2 (suc (suc i)) o ≡ getD l (suc (suc i)) o = behind l1 (suc i) _ b (omega arith) ∙ behind l i _ a (omega arith) in
+      let d1 : getD (set l2 (suc (suc i)) c) (suc (suc (suc i))) o ≡ getD l (suc (suc (suc i))) o = behind l2 (suc (suc i)) _ c (omega arith) ∙ behind l1 (suc i) _ b (omega arith) ∙ behind l i _ a (omega arith) in
+      let read : a ∷ b ∷ c ∷ d ∷ [] ≡ zipWith f (reads l i 4 o) (reads ds 0 4 n) = rw (ea, rw b1 at eb, rw c1 at ec, rw d1 at ed) in
+      read ∙ ap (zipWith f (reads l i 4 o)) (reads-all ds 4 n e)
 
 module _ (t : Instrument) (frames : ℕ) (old : List Float) where
   pub planning-start : frames * copiesIn (table (t .«voice_count») (t .voices)) ≡ length old → Planning t frames old t old 0 0
@@ -147,11 +167,11 @@ module _ (t : Instrument) (frames : ℕ) (old : List Float) where
       places : (i + 1 ≡ suc i) × (i + 1 + 1 ≡ suc (suc i)) × (i + 1 + 2 ≡ suc (suc (suc i)))
       places = (omega arith, omega arith, omega arith)
 
+      here : vs ≡ reads (s .voices) i 4 pastEnd
+      here = rw (read, places .2, places .1, places .0)
+
       four : vs ≡ take (length vs) (drop i (t .voices))
-      four =
-          let size = p .pass .size in
-          let here : vs ≡ reads (s .voices) i 4 pastEnd = rw (read, places .2, places .1, places .0) in
-          rw long (here ∙ reads-eq (s .voices) i 4 pastEnd (omega arith) ∙ ap (take 4) (p .pass .back))
+      four = let size = p .pass .size in rw long (here ∙ reads-eq (s .voices) i 4 pastEnd (omega arith) ∙ ap (take 4) (p .pass .back))
 
       ones : all (λ (x : Seen). copiesFit 1 (x .voice)) (map seen vs) ≡ true
       unfolding seen
@@ -176,20 +196,27 @@ module _ (t : Instrument) (frames : ℕ) (old : List Float) where
       pub four-room : at + frames * 4 ≤ length xs
       four-room = let n = long in run-room p vs four (omega arith) 4 four-rows
 
-      pub four-glide : (ws : List Voice) (u : Instrument) (ys zs : List Float) (q : ℕ) → q ≡ frames * 4 → GlidedVoices frames vs ws (take q (drop at xs)) ys
-          → zs ≡ take at xs ++ (ys ++ drop q (drop at xs))
-          → u ≡ blockedAs s (set (set (set (set (s .voices) (i + 1 - 1) (getD ws 0 pastEnd)) (i + 1) (getD ws 1 pastEnd)) (i + 1 + 1) (getD ws 2 pastEnd)) (i + 1 + 2) (getD ws 3 pastEnd)) (s .«voice_count») (s .frames)
+      -- each copy is put back into its voice
+      pub four-glide : (ds : List UnisonCopy) (a b c d : Voice) (u : Instrument) (ys zs : List Float) (q : ℕ) → q ≡ frames * 4 → GlidedHeads frames (map headOf vs) ds (take q (drop at xs)) ys
+          → zs ≡ take at xs ++ (ys ++ drop q (drop at xs)) → a ≡ withHead (getD (s .voices) (i + 1 - 1) pastEnd) (getD ds 0 noCopy)
+          → b ≡ withHead (getD (set (s .voices) (i + 1 - 1) a) (i + 1) pastEnd) (getD ds 1 noCopy)
+          → c ≡ withHead (getD (set (set (s .voices) (i + 1 - 1) a) (i + 1) b) (i + 1 + 1) pastEnd) (getD ds 2 noCopy)
+          → d ≡ withHead (getD (set (set (set (s .voices) (i + 1 - 1) a) (i + 1) b) (i + 1 + 1) c) (i + 1 + 2) pastEnd) (getD ds 3 noCopy)
+          → u ≡ blockedAs s (set (set (set (set (s .voices) (i + 1 - 1) a) (i + 1) b) (i + 1 + 1) c) (i + 1 + 2) d) (s .«voice_count») (s .frames)
           → Planning t frames old u zs (at + frames * 4) (i + 1 + 3)
-      four-glide ws u ys zs q e v g w =
+      four-glide ds a b c d u ys zs q e h g ea eb ec ed w =
           let n = long in
           let within : i + length vs ≤ t .«voice_count» = omega arith in
-          let fit : VoicesFit frames vs (take q (drop at xs)) = (singles, rw long (sym (run-size p vs four within 4 four-rows q e))) in
-          let new = v .voices fit in
-          let z : length ws ≡ length vs = simp length-map at (ap length new) in
+          let fit : frames * length (map headOf vs) ≡ length (take q (drop at xs)) = rw (length-map vs headOf, long) (sym (run-size p vs four within 4 four-rows q e)) in
+          let z : length ds ≡ 4 = ap length (h .glided fit .copies) ∙ rw (length-map, length-map) long in
           let e0 : i + 1 - 1 ≡ i = omega arith in
           let e4 : i + length vs ≡ i + 1 + 3 = omega arith in
-          let stored : u ≡ blockedAs s (sets (s .voices) i (reads ws 0 4 pastEnd)) (s .«voice_count») (s .frames) = rw (w, e0, places .2, places .1, places .0) in
-          rw e4 at (run-puts p vs four within 4 four-rows ws u ys zs q e new (v .numbers fit) g (stored ∙ ap (λ (l : List Voice). blockedAs s (sets (s .voices) i l) (s .«voice_count») (s .frames)) (reads-all ws 4 pastEnd (z ∙ long))))
+          let ws = a ∷ b ∷ c ∷ d ∷ [] in
+          let put = four-puts pastEnd withHead (s .voices) i ds noCopy z a b c d (rw e0 at ea) (rw (e0, places .0) at eb) (rw (e0, places .1, places .0) at ec) (rw (e0, places .2, places .1, places .0) at ed) in
+          let new = heads-glide frames vs singles ds ys (h .glided fit) in
+          let glides : map seen ws ≡ map (later frames) (map seen vs) = ap (map seen) (put ∙ ap (λ (l : List Voice). zipWith withHead l ds) (sym here)) ∙ new .0 in
+          let stored : u ≡ blockedAs s (sets (s .voices) i ws) (s .«voice_count») (s .frames) = rw (w, e0, places .2, places .1, places .0) in
+          rw e4 at (run-puts p vs four within 4 four-rows ws u ys zs q e glides (new .1) g stored)
 
     -- every voice has glided
     module _ {s : Instrument} {xs : List Float} {at i : ℕ} (p : Planning t frames old s xs at i) (end : t .«voice_count» ≤ i) where

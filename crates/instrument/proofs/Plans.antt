@@ -2,7 +2,7 @@
 use mathlib.Core.Path.{_≡_, refl, ap, sym, _∙_, fun-ext}
 use mathlib.Core.Bool.{Bool, true, false, cond}
 use mathlib.Core.List.{List, [], _∷_, map}
-use Prim.Native.Nat.{ℕ, _*_, _≤_, _^_}
+use Prim.Native.Nat.{ℕ, zero, suc, _*_, _≤_, _^_}
 use native.Mathlib.Omega.{arith}
 use native.Mathlib.Nat.{mul-le-mul}
 use borrow.Author.Tests.{leb-true, le-leb, eq-eqb, ne-eqb, eqb-true, not-false}
@@ -37,14 +37,14 @@ use Rattle.voice.specs.declared.CopyChange.the-variants.{Bend, Wobble}
 use Rattle.voice.specs.declared.VoiceChange.{VoiceChange}
 use Rattle.instrument.specs.View.{view, counted, formed}
 use Rattle.formed.specs.Check.{voiceFits}
-use Rattle.instrument.specs.Calls.{refusalOf, lentOf, answeredAs, refusedAs, barredBy}
+use Rattle.instrument.specs.Calls.{refusalOf, lentOf, answeredAs, refusedAs, barredBy, blockedAs, withFrames}
 use Rattle.instrument.specs.Plans.{PlannedAs, stepOf, phaseOn, wobbleOf, StandsFor}
 use Rattle.instrument.specs.declared.Instrument.{Instrument}
 use Rattle.instrument.specs.declared.Outcome.{Outcome}
 use Rattle.instrument.specs.declared.Reply.the-variants.{Planned}
-use Rattle.instrument.proofs.States.{movedAs, blockedAs}
+use Rattle.instrument.proofs.States.{movedAs}
 use Rattle.instrument.proofs.Formed.{tableOf, seen-long, parts-of}
-use Rattle.instrument.proofs.Calls.{Free, bars, unrefused, counts, counted-of, refusal-in, refused-call, accepted-call}
+use Rattle.instrument.proofs.Calls.{Free, free, bars, unrefused, counts, counted-of, refusal-in, refused-call, accepted-call, shut}
 use Rattle.instrument.proofs.Controls.{mapped-room, mapped-voices}
 
 -- ---- what the checks say of the numbers
@@ -223,6 +223,17 @@ module _ (s : Instrument) (n : ℕ) (vibrato filter sine : Float) (old : List Fl
   module _ (e : refusalOf s (M.Call.plan n vibrato filter sine old) ≡ 0) where
     kept : Passes (view s) (M.Call.plan n vibrato filter sine old)
     kept = passes (view s) _ (refusal-in s _ (counted-of s _ e) ∙ e)
+
+    unbarred : Free s
+    unbarred = free s (by (barredBy s) refl)
+      where
+        by : (k : ℕ) → barredBy s ≡ k → barredBy s ≡ 0
+        by zero q = q
+        by (suc k) q = sym (bars s (M.Call.plan n vibrato filter sine old) refl (λ z. let w : suc k ≡ 0 = sym q ∙ z in let n : ⊥ = omega arith in n)) ∙ e
+
+    -- no block is open, so the call took none out of its state
+    pub plan-taken : (t : Instrument) → ModulatedAs (withFrames s 0) n vibrato filter sine t → ModulatedAs s n vibrato filter sine t
+    plan-taken t m = rw (shut s unbarred) at m
 
     pub plan-fits : (n ≤ 1024) × (rateFits (s .design .«sample_rate») ≡ true) × (s .«voice_count» ≤ 64)
     unfolding wellFormed view

@@ -47,22 +47,3 @@ movedAs s vs vibPhase fltPhase tremPhase trem = record {
   «held_count» = s .«held_count»;
   frames = s .frames;
 }
-
--- another table, and the frames of the open block
-unfoldable pub blockedAs : Instrument → List Voice → ℕ → ℕ → Instrument
-blockedAs s vs count frames = record {
-  design = s .design;
-  voices = vs;
-  «voice_count» = count;
-  «next_handle» = s .«next_handle»;
-  sustain = s .sustain;
-  bend = s .bend;
-  brightness = s .brightness;
-  «vib_phase» = s .«vib_phase»;
-  «flt_phase» = s .«flt_phase»;
-  «trem_phase» = s .«trem_phase»;
-  trem = s .trem;
-  held = s .held;
-  «held_count» = s .«held_count»;
-  frames = frames;
-}

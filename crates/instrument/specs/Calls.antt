@@ -132,6 +132,29 @@ placedAs s vs count next sustain held = record {
   frames = s .frames;
 }
 
+-- another table, and the frames of the open block
+unfoldable pub blockedAs : Instrument → List Voice → ℕ → ℕ → Instrument
+blockedAs s vs count frames = record {
+  design = s .design;
+  voices = vs;
+  «voice_count» = count;
+  «next_handle» = s .«next_handle»;
+  sustain = s .sustain;
+  bend = s .bend;
+  brightness = s .brightness;
+  «vib_phase» = s .«vib_phase»;
+  «flt_phase» = s .«flt_phase»;
+  «trem_phase» = s .«trem_phase»;
+  trem = s .trem;
+  held = s .held;
+  «held_count» = s .«held_count»;
+  frames = frames;
+}
+
+-- the state with a block of so many frames, 0 for none
+abbrev pub withFrames : Instrument → ℕ → Instrument
+withFrames s frames = blockedAs s (s .voices) (s .«voice_count») frames
+
 abbrev pub holdingOf : Instrument → Held
 holdingOf s = record { notes = s .held; count = s .«held_count» }
 

@@ -12,7 +12,7 @@ ghost use Rattle.model.specs.Notes.{velocityOf, noteOffOf};
 ghost use Rattle.formed.specs.Held.{heldFirst};
 ghost use Rattle.instrument.specs.declared.Instrument.{Instrument};
 ghost use Rattle.instrument.specs.View.{view, counted, formed as formedState};
-ghost use Rattle.instrument.specs.Calls.{emptyModel, refusedAs, answeredAs, barredBy, fallBackOf, Reads, OffAs, lastHandle, stayOn, spawnOn, HeldOn, OnAs, CallAs, StartAs, Gives};
+ghost use Rattle.instrument.specs.Calls.{emptyModel, withFrames, refusedAs, answeredAs, barredBy, fallBackOf, Reads, OffAs, lastHandle, stayOn, spawnOn, HeldOn, OnAs, CallAs, StartAs, Gives};
 ghost use Rattle.instrument.specs.Asked.{answerOf, askedOf, VoiceAs};
 use design::DesignReply;
 use design::InstrumentDesign;
@@ -258,10 +258,11 @@ impl Instrument {
     }
 }
 
-// The very state given, with the number of the refusal.
-fn refused(state: Instrument, number: u8) -> Outcome
-    ensures { λ r. ⌜ r ≡ refusedAs state number ⌝ }
+// The very state given, with the frames of its block put back and the number of the refusal.
+fn refused(mut state: Instrument, frames: usize, number: u8) -> Outcome
+    ensures { λ r. ⌜ r ≡ refusedAs (withFrames state frames) number ⌝ }
 {
+    state.frames = frames;
     Outcome {
         reply: Reply::Refused(number),
         state,
@@ -275,26 +276,34 @@ fn answered(reply: Reply, state: Instrument) -> Outcome
 }
 
 impl Instrument {
-    // 1 or 5 where a call other than Mix meets a state that bars it, else 0.
-    fn barred(self) -> u8
-        ensures { λ n. ⌜ n ≡ barredBy self ⌝ }
+    // 1 or 5 where a call other than Mix meets a state that bars it, else 0. A call first takes the frames out of its state, and
+    // `formed` is check 1 of the rest: of a state that was changed the compiler makes no copy to hand it to the check.
+    fn barred(self, formed: bool, frames: usize) -> u8
+        requires { ⌜ (formed ≡ formedState self) × (self .frames ≡ 0) ⌝ }
+        ensures { λ n. ⌜ n ≡ barredBy (withFrames self frames) ⌝ }
     {
-        if !self.well_formed() {
+        if !formed {
             return 1;
         }
-        if self.frames == 0 {
+        if frames == 0 {
             return 0;
         }
-        5
+        if frames_fit(self.design, frames) {
+            5
+        } else {
+            1
+        }
     }
 
     // Sustain pedal: on its release every sustained voice is released.
     pub fn set_sustain(mut self, down: bool) -> Outcome
         ensures { λ r. ⌜ CallAs self (Call.pedal down) r ⌝ }
     {
-        let barred = self.barred();
-        if barred != 0 {
-            return refused(self, barred);
+        let frames = self.frames;
+        self.frames = 0;
+        let number = self.barred(self.well_formed(), frames);
+        if number != 0 {
+            return refused(self, frames, number);
         }
         self.sustain = down;
         if down {
@@ -315,9 +324,11 @@ impl Instrument {
     pub fn release(mut self, handle: u64) -> Outcome
         ensures { λ r. ⌜ CallAs self (Call.release handle) r ⌝ }
     {
-        let barred = self.barred();
-        if barred != 0 {
-            return refused(self, barred);
+        let frames = self.frames;
+        self.frames = 0;
+        let number = self.barred(self.well_formed(), frames);
+        if number != 0 {
+            return refused(self, frames, number);
         }
         let n = self.voice_count;
         let mut i: usize = 0;
@@ -335,9 +346,11 @@ impl Instrument {
     pub fn all_notes_off(mut self) -> Outcome
         ensures { λ r. ⌜ CallAs self Call.allOff r ⌝ }
     {
-        let barred = self.barred();
-        if barred != 0 {
-            return refused(self, barred);
+        let frames = self.frames;
+        self.frames = 0;
+        let number = self.barred(self.well_formed(), frames);
+        if number != 0 {
+            return refused(self, frames, number);
         }
         let n = self.voice_count;
         let mut i: usize = 0;
@@ -355,9 +368,11 @@ impl Instrument {
     pub fn set_bend(mut self, factor: f32) -> Outcome
         ensures { λ r. ⌜ CallAs self (Call.bend factor) r ⌝ }
     {
-        let barred = self.barred();
-        if barred != 0 {
-            return refused(self, barred);
+        let frames = self.frames;
+        self.frames = 0;
+        let number = self.barred(self.well_formed(), frames);
+        if number != 0 {
+            return refused(self, frames, number);
         }
         let n = self.voice_count;
         let mut i: usize = 0;
@@ -373,9 +388,11 @@ impl Instrument {
     pub fn set_brightness(mut self, scale: f32) -> Outcome
         ensures { λ r. ⌜ CallAs self (Call.brightness scale) r ⌝ }
     {
-        let barred = self.barred();
-        if barred != 0 {
-            return refused(self, barred);
+        let frames = self.frames;
+        self.frames = 0;
+        let number = self.barred(self.well_formed(), frames);
+        if number != 0 {
+            return refused(self, frames, number);
         }
         let least = float32::max(scale, 0.01);
         let n = self.voice_count;
@@ -491,10 +508,15 @@ fn off_of(design: InstrumentDesign, holding: Held, n: usize, note: u8, down: boo
 
 impl Instrument {
     // The voice is looked for from the newest on.
-    fn off(mut self, note: u8) -> Outcome
-        requires { ⌜ barredBy self ≡ 0 ⌝ }
-        ensures { λ r. ⌜ Gives (noteOffOf (view self) note) r ⌝ }
+    pub fn note_off(mut self, note: u8) -> Outcome
+        ensures { λ r. ⌜ CallAs self (Call.noteOff note) r ⌝ }
     {
+        let frames = self.frames;
+        self.frames = 0;
+        let number = self.barred(self.well_formed(), frames);
+        if number != 0 {
+            return refused(self, frames, number);
+        }
         let design = self.design;
         let held = self.held;
         let holding = Held {
@@ -518,16 +540,6 @@ impl Instrument {
             i = k;
         }
         answered(Reply::Off(off.held), self)
-    }
-
-    pub fn note_off(self, note: u8) -> Outcome
-        ensures { λ r. ⌜ CallAs self (Call.noteOff note) r ⌝ }
-    {
-        let barred = self.barred();
-        if barred != 0 {
-            return refused(self, barred);
-        }
-        self.off(note)
     }
 }
 
@@ -638,17 +650,19 @@ impl Instrument {
     pub fn note_on(mut self, note: u8, velocity: f32, built: bool) -> Outcome
         ensures { λ r. ⌜ CallAs self (Call.noteOn note velocity built) r ⌝ }
     {
-        let barred = self.barred();
-        if barred != 0 {
-            return refused(self, barred);
-        }
         let level = velocity_of(velocity);
         if level == 0.0 {
-            return self.off(note);
+            return self.note_off(note);
+        }
+        let frames = self.frames;
+        self.frames = 0;
+        let number = self.barred(self.well_formed(), frames);
+        if number != 0 {
+            return refused(self, frames, number);
         }
         let on = self.on_of(note, level, built);
         if on.spent {
-            return refused(self, 8);
+            return refused(self, frames, 8);
         }
         let k = on.place;
         let change = on.change;

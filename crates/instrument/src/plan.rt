@@ -11,8 +11,8 @@ ghost use Rattle.design.specs.Accepted.{modulated as isModulated};
 ghost use Rattle.envelope.specs.Start.{rateFits};
 ghost use Rattle.model.specs.Types.{Call};
 ghost use Rattle.model.specs.Plan.{vibratoFactor, filterFactor, tremoloGain, applied};
-ghost use Rattle.instrument.specs.View.{view};
-ghost use Rattle.instrument.specs.Calls.{refusalOf};
+ghost use Rattle.instrument.specs.View.{view, formed as formedState};
+ghost use Rattle.instrument.specs.Calls.{refusalOf, withFrames};
 ghost use Rattle.instrument.specs.Plans.{PlannedAs, stepOf, phaseOn, wobbleOf, StandsFor};
 use crate::Instrument;
 use crate::Outcome;
@@ -115,11 +115,13 @@ impl Instrument {
         self
     }
 
-    // The number of the refusal of a plan with a curve of length `len`, 0 where it is accepted.
-    fn plan_refusal(self, frames: usize, len: usize) -> u8
-        ensures { λ n. ⌜ ((vibrato filter sine : Float) (curve : List Float) → length curve ≡ len → n ≡ refusalOf self (Call.plan frames vibrato filter sine curve)) ⌝ }
+    // The number of the refusal of a plan with a curve of length `len`, 0 where it is accepted. `opened` are the frames that the call
+    // took out of its state, `formed` is check 1 of the rest.
+    fn plan_refusal(self, formed: bool, opened: usize, frames: usize, len: usize) -> u8
+        requires { ⌜ (formed ≡ formedState self) × (self .frames ≡ 0) ⌝ }
+        ensures { λ n. ⌜ ((vibrato filter sine : Float) (curve : List Float) → length curve ≡ len → n ≡ refusalOf (withFrames self opened) (Call.plan frames vibrato filter sine curve)) ⌝ }
     {
-        let barred = self.barred();
+        let barred = self.barred(formed, opened);
         if barred != 0 {
             return barred;
         }
@@ -138,9 +140,11 @@ impl Instrument {
     pub fn plan(mut self, frames: usize, vib: f32, flt: f32, sin: f32, curve: &mut [f32]) -> Outcome
         ensures { λ r. ⌜ PlannedAs self frames vib flt sin (now (curve .entry)) (now (curve .exit)) r ⌝ }
     {
-        let number = self.plan_refusal(frames, curve.len());
+        let opened = self.frames;
+        self.frames = 0;
+        let number = self.plan_refusal(self.well_formed(), opened, frames, curve.len());
         if number != 0 {
-            return refused(self, number);
+            return refused(self, opened, number);
         }
         if modulated(self.design) {
             self = self.apply_modulation(frames, vib, flt, sin);
@@ -151,25 +155,23 @@ impl Instrument {
         while i < n {
             let v = self.voices[i];
             let copies = v.copies_shown();
-            let end = at + frames * copies;
+            let mut end = at + frames * copies;
             i += 1;
             if curves::stands(v) {
                 curves::write_voice(v, frames, &mut curve[at..end]);
-                at = end;
             } else if side_by_side(n - i, copies) {
-                let last = at + frames * 4;
+                end = at + frames * 4;
                 let four = [v, self.voices[i], self.voices[i + 1], self.voices[i + 2]];
-                let glided = curves::glide_voices(four, frames, &mut curve[at..last]);
-                self.voices[i - 1] = glided[0];
-                self.voices[i] = glided[1];
-                self.voices[i + 1] = glided[2];
-                self.voices[i + 2] = glided[3];
-                at = last;
+                let glided = curves::glide_heads(four, frames, &mut curve[at..end]);
+                self.voices[i - 1] = curves::with_head(self.voices[i - 1], glided[0]);
+                self.voices[i] = curves::with_head(self.voices[i], glided[1]);
+                self.voices[i + 1] = curves::with_head(self.voices[i + 1], glided[2]);
+                self.voices[i + 2] = curves::with_head(self.voices[i + 2], glided[3]);
                 i += 3;
             } else {
                 self.voices[i - 1] = curves::glide_voice(v, frames, &mut curve[at..end]);
-                at = end;
             }
+            at = end;
         }
         self.frames = frames;
         answered(Reply::Planned, self)

@@ -10,7 +10,7 @@ use native.Mathlib.Omega.{arith}
 use borrow.Author.Tests.{ltb-true, ltb-false}
 use lib.Dec.{ltb}
 use lib.ListN.{length, take, drop, getD, set, length-set, length-map, length-take}
-use lib.Seq.{sets, take-suc-set, drop-set-lt, getD-drop, drop-drop}
+use lib.Seq.{sets, take-suc-set, take-set-le, drop-set-lt, getD-drop, drop-drop}
 use Rattle.lists.specs.Prefix.{take-more}
 use Rattle.lists.specs.Places.{without, without-none, without-more, without-past, map-without}
 
@@ -35,16 +35,30 @@ module _ {A B : Type 0} where
     pub pass-skip : Pass s ys w i ws vs → Pass s ys w (i + 1) ws vs
     pass-skip p = record { front = p .front; back = drop-next i ws vs (p .back); size = p .size; order = omega arith }
 
-    pub pass-keep : (a : A) (b : B) → s a ≡ b → Pass s ys w i ws vs → i < length vs
-        → Pass s (ys ++ (b ∷ [])) (w + 1) (i + 1) (set ws w a) vs
-    pass-keep a b e p h =
+    -- one more at the front, of those that are read
+    pub pass-put : (a : A) (b : B) → s a ≡ b → Pass s ys w i ws vs → w < i → i ≤ length vs → Pass s (ys ++ (b ∷ [])) (w + 1) i (set ws w a) vs
+    pass-put a b e p h l =
         let in-ws : w < length ws = omega arith in
         record {
           front = rw (add-one, take-suc-set ws w a, map-append, p .front, e);
-          back = drop-set-lt (i + 1) ws w a (omega arith) ∙ drop-next i ws vs (p .back);
+          back = drop-set-lt i ws w a h ∙ p .back;
           size = length-set ws w a ∙ p .size;
           order = omega arith;
         }
+
+    -- the element at i is read, and another put in its place
+    pub pass-spend : (a : A) → Pass s ys w i ws vs → Pass s ys w (i + 1) (set ws i a) vs
+    pass-spend a p =
+        record {
+          front = ap (map s) (take-set-le w ws i a (p .order)) ∙ p .front;
+          back = drop-set-lt (i + 1) ws i a (omega arith) ∙ pass-skip p .back;
+          size = length-set ws i a ∙ p .size;
+          order = omega arith;
+        }
+
+  pub pass-keep : {s : A → B} {ys : List B} {w i : ℕ} {ws vs : List A} (a : A) (b : B) → s a ≡ b → Pass s ys w i ws vs → i < length vs
+      → Pass s (ys ++ (b ∷ [])) (w + 1) (i + 1) (set ws w a) vs
+  pass-keep a b e p h = pass-put a b e (pass-skip p) (omega arith) (omega arith)
 
   -- the element at i stays as it is
   pub pass-stay : {s : A → B} {ys : List B} {i : ℕ} {ws vs : List A} (d : A) (b : B) → s (getD ws i d) ≡ b → Pass s ys i i ws vs → i < length vs

@@ -11,7 +11,7 @@ use lib.Seq.{getD-drop, getD-take, set-getD, drop-drop, take-suc-set}
 use Rattle.lists.specs.Prefix.{take-more, fold, fold-more}
 use Rattle.stream.specs.declared.UnisonCopy.{UnisonCopy}
 use Rattle.model.specs.Mix.{addSide, Mixing, mixing, interleave}
-use Rattle.voice.proofs.Sizes.{noCopy}
+use Rattle.voice.specs.View.{noCopy}
 use Rattle.render.specs.Parts.{row, partCopy, Gains, addFour}
 use Rattle.model.proofs.Laws.{length-add}
 

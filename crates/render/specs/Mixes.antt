@@ -5,11 +5,11 @@ use Prim.Native.Nat.{ℕ, _+_, _*_, _≤_}
 use lib.Ieee.{Float}
 use lib.ListN.{length, take, drop}
 use Rattle.stream.specs.declared.UnisonCopy.{UnisonCopy}
-use Rattle.model.specs.Voices.{agedVoice}
+use Rattle.envelope.specs.declared.EnvGen.{EnvGen}
+use Rattle.model.specs.Voices.{aged}
 use Rattle.model.specs.Mix.{mixing, sideVoice, interleave, onLeft, onRight}
 use Rattle.voice.specs.declared.Voice.{Voice}
-use Rattle.voice.specs.View.{shown, seen}
-use Rattle.voice.specs.Changes.{onSeen}
+use Rattle.voice.specs.View.{shown}
 
 -- a block of n frames, 1,024 at most: n samples of each copy from p on, and a sum of each side for each frame
 pub record Fits (v : Voice) (n p : ℕ) (samples left right : List Float) : Type 0 where
@@ -22,13 +22,27 @@ pub record Fits (v : Voice) (n p : ℕ) (samples left right : List Float) : Type
 abbrev pub addedVoice : (UnisonCopy → Float) → Voice → ℕ → Float → List Float → ℕ → List Float → List Float
 addedVoice side v n trem samples p sums = sideVoice side n trem (mixing (drop p samples) sums) (shown v) .sums
 
--- r is the voice v after the frames; the sums of both sides at entry and at exit
-pub record AddedAs (v : Voice) (n : ℕ) (trem : Float) (samples : List Float) (p : ℕ) (left₀ right₀ left right : List Float) (r : Voice) : Type 0 where
-  pub voice : Fits v n p samples left₀ right₀ → seen r ≡ onSeen (agedVoice n) (seen v)
+-- r is the envelope of the voice v after the frames; the sums of both sides at entry and at exit
+pub record AddedAs (v : Voice) (n : ℕ) (trem : Float) (samples : List Float) (p : ℕ) (left₀ right₀ left right : List Float) (r : EnvGen) : Type 0 where
+  pub env : Fits v n p samples left₀ right₀ → r ≡ aged n (v .env)
   pub leftSums : Fits v n p samples left₀ right₀ → left ≡ addedVoice onLeft v n trem samples p left₀
   pub rightSums : Fits v n p samples left₀ right₀ → right ≡ addedVoice onRight v n trem samples p right₀
   -- numbers of another size leave all as it is
-  pub refused : (Fits v n p samples left₀ right₀ → ⊥) → (r ≡ v) × (left ≡ left₀) × (right ≡ right₀)
+  pub refused : (Fits v n p samples left₀ right₀ → ⊥) → (r ≡ v .env) × (left ≡ left₀) × (right ≡ right₀)
+
+-- the voice with another envelope
+unfoldable pub withEnv : Voice → EnvGen → Voice
+withEnv v env = record {
+  handle = v .handle;
+  note = v .note;
+  copies = v .copies;
+  «copy_count» = v .«copy_count»;
+  «built_hz» = v .«built_hz»;
+  env = env;
+  gain = v .gain;
+  releasing = v .releasing;
+  sustained = v .sustained;
+}
 
 -- two places of the output for each of m frames, and a sum of each side
 pub record FitsOut (m : ℕ) (left right out : List Float) : Type 0 where

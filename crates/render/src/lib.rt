@@ -7,11 +7,12 @@ ghost use Prim.Native.Nat.{_+_, _*_, _≤_};
 ghost use lib.Dec.{leb};
 ghost use lib.ListN.{length, take, drop};
 ghost use Rattle.lists.specs.Prefix.{fold};
+ghost use Rattle.model.specs.Types as model;
 ghost use Rattle.model.specs.Voices.{aged, isEnded};
 ghost use Rattle.model.specs.Mix.{addSide, mixing, interleave, onLeft, onRight};
 ghost use Rattle.voice.specs.View.{shown};
 ghost use Rattle.render.specs.Parts.{row, partCopy, gains, addFour, BothSides};
-ghost use Rattle.render.specs.Mixes.{Fits, AddedAs, addedVoice, FitsOut, PutAs};
+ghost use Rattle.render.specs.Mixes.{Fits, AddedAs, addedVoice, withEnv, FitsOut, PutAs};
 use envelope::EnvGen;
 use lists::smaller;
 use stream::UnisonCopy;
@@ -198,7 +199,8 @@ fn stand_from(p: usize, n: usize, k: usize, len: usize) -> bool
     false
 }
 
-// One voice goes into the sums of both sides, its samples from p on, and is n frames older. Where something does not fit, all is left as it is.
+// One voice goes into the sums of both sides, its samples from p on; gives its envelope n frames later. Where something does not fit, all is
+// left as it is.
 pub fn add_voice(
     v: Voice,
     n: usize,
@@ -207,25 +209,31 @@ pub fn add_voice(
     p: usize,
     left: &mut [f32],
     right: &mut [f32],
-) -> Voice
+) -> EnvGen
     ensures { λ r. ⌜ AddedAs v n trem (now (samples .entry)) p (now (left .entry)) (now (right .entry)) (now (left .exit)) (now (right .exit)) r ⌝ }
 {
+    let env = v.env;
     if n > 1024 {
-        return v;
+        return env;
     }
     if n > left.len() {
-        return v;
+        return env;
     }
     if n > right.len() {
-        return v;
+        return env;
     }
     if !stand_from(p, n, v.copies_shown(), samples.len()) {
-        return v;
+        return env;
     }
-    let e = add_parts(v, n, trem, samples, p, left, right);
-    let mut w = v;
-    w.env = e;
-    w
+    add_parts(v, n, trem, samples, p, left, right)
+}
+
+// The voice with another envelope.
+pub fn with_env(mut v: Voice, env: EnvGen) -> Voice
+    ensures { λ r. ⌜ r ≡ withEnv v env ⌝ }
+{
+    v.env = env;
+    v
 }
 
 // m sums of each side, left before right.
@@ -259,13 +267,12 @@ pub fn put(left: &[f32], right: &[f32], m: usize, out: &mut [f32])
     put_pairs(left, right, m, out);
 }
 
-// Whether a voice goes on: neither run down nor faded.
-pub fn goes_on(v: Voice) -> bool
-    ensures { λ r. ⌜ r ≡ not (isEnded (shown v)) ⌝ }
+// Whether a voice goes on, by its envelope: neither run down nor faded.
+pub fn goes_on(env: EnvGen) -> bool
+    ensures { λ r. ⌜ ((v : model.Voice) → v .env ≡ env → r ≡ not (isEnded v)) ⌝ }
 {
-    let e = v.env;
-    if !e.active() {
+    if !env.active() {
         return false;
     }
-    !e.faded()
+    !env.faded()
 }

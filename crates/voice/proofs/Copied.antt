@@ -9,9 +9,8 @@ use Rattle.lists.specs.Prefix.{map-take, mapped, mapped-next, mapped-more, leng
 use Rattle.stream.specs.declared.UnisonCopy.{UnisonCopy}
 use Rattle.model.specs.Voices.{withCopies, withVoice}
 use Rattle.voice.specs.declared.Voice.{Voice}
-use Rattle.voice.specs.View.{shown, seen}
+use Rattle.voice.specs.View.{shown, seen, noCopy}
 use Rattle.voice.specs.Changes.{onSeen}
-use Rattle.voice.proofs.Sizes.{noCopy}
 
 unfoldable pub copied : Voice → List UnisonCopy → Voice
 copied v cs = record {

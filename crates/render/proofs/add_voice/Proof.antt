@@ -8,28 +8,26 @@ use borrow.Author.Needs.{needs}
 use lib.Dec.{leb}
 use lib.Ieee.{Float}
 use lib.ListN.{length}
-use Rattle.model.specs.Voices.{withVoice, agedVoice}
 use Rattle.voice.specs.declared.Voice.{Voice}
-use Rattle.voice.specs.View.{shown, seen}
-use Rattle.voice.specs.Changes.{onSeen}
+use Rattle.voice.specs.View.{shown}
 use Rattle.render.specs.Mixes.{Fits, AddedAs}
 use Rattle.render.proofs.add_voice.Statement.{statement}
 use Rattle.render.proofs.add_voice.Tie as tie
 
 module _ (v : Voice) (n : ℕ) (trem : Float) (samples : List Float) (p : ℕ) (left right : List Float) where
-  left-alone : (Fits v n p samples left right → ⊥) → AddedAs v n trem samples p left right left right v
-  left-alone f = record { voice = λ h. absurd (f h); leftSums = λ h. absurd (f h); rightSums = λ h. absurd (f h); refused = λ _. (refl, refl, refl) }
+  left-alone : (Fits v n p samples left right → ⊥) → AddedAs v n trem samples p left right left right (v .env)
+  left-alone f = record { env = λ h. absurd (f h); leftSums = λ h. absurd (f h); rightSums = λ h. absurd (f h); refused = λ _. (refl, refl, refl) }
 
-  long-block : 1024 < n → AddedAs v n trem samples p left right left right v
+  long-block : 1024 < n → AddedAs v n trem samples p left right left right (v .env)
   long-block e = left-alone (λ h. let g = h .frames in omega arith)
 
-  few-left : length left < n → AddedAs v n trem samples p left right left right v
+  few-left : length left < n → AddedAs v n trem samples p left right left right (v .env)
   few-left e = left-alone (λ h. let g = h .leftSums in omega arith)
 
-  few-right : length right < n → AddedAs v n trem samples p left right left right v
+  few-right : length right < n → AddedAs v n trem samples p left right left right (v .env)
   few-right e = left-alone (λ h. let g = h .rightSums in omega arith)
 
-  few-samples : (k : ℕ) → k ≡ length (shown v .copies) → length samples < p + n * k → AddedAs v n trem samples p left right left right v
+  few-samples : (k : ℕ) → k ≡ length (shown v .copies) → length samples < p + n * k → AddedAs v n trem samples p left right left right (v .env)
   few-samples k e l = left-alone (λ h. let g = rw (← e) at (h .inputs) in omega arith)
 
 -- the code's test of the samples, on the copies that the voice has
@@ -38,7 +36,7 @@ room p n k copies len e h = rw e at (leb-true (p + n * k) len h)
 
 -- every test passed
 module _ (t : tie.Else4) where
-  fits : let x = t .before .before .before .before .before .before .before .before .before .args in Fits (x .v) (x .n) (x .p) (x .samples .now) (x .left .now) (x .right .now)
+  fits : let x = t .before .before .before .before .before .before .before .before .before .before .args in Fits (x .v) (x .n) (x .p) (x .samples .now) (x .left .now) (x .right .now)
   fits =
       let k = t .before .before .copies-shown in
       record {
@@ -76,11 +74,10 @@ same-length-2 : tie.Need-same-length-2
 same-length-2 c = search needs
 
 returns-5 : tie.Need-returns-5
-unfolding seen shown onSeen agedVoice withVoice
 returns-5 c =
     let e = c .before .before .before .before .add-parts .ensures in
     record {
-      voice = λ _. rw (e .0);
+      env = λ _. e .0;
       leftSums = λ _. e .1 .onLeft;
       rightSums = λ _. e .1 .onRight;
       refused = λ f. absurd (f (fits (c .before .before .before .before .before .before .before)));

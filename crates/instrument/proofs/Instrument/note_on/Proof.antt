@@ -12,10 +12,10 @@ use Rattle.design.specs.declared.InstrumentDesign.{InstrumentDesign}
 use Rattle.design.specs.Accepted.{isAccepted, copiesOf}
 use Rattle.model.specs.Voices.{newVoice}
 use Rattle.instrument.specs.View.{view}
-use Rattle.instrument.specs.Calls.{placedAs, answeredAs}
+use Rattle.instrument.specs.Calls.{placedAs, blockedAs, withFrames, answeredAs, refusedAs}
 use Rattle.instrument.specs.declared.Instrument.{Instrument}
 use Rattle.instrument.proofs.States.{tabledAs}
-use Rattle.instrument.proofs.Calls.{Free, free, counts, barred-call}
+use Rattle.instrument.proofs.Calls.{Free, free, counts, barred-call, shut, shut-free, shut-passes, of-shut}
 use Rattle.instrument.proofs.Formed.{parts-of}
 use Rattle.instrument.proofs.Ons.{off-is, on-off, on-refused, on-done}
 use Rattle.instrument.proofs.Edits.{Changed, change-one, change-none, same-count, edited-same, edited-more, carried}
@@ -24,7 +24,7 @@ use Rattle.instrument.proofs.Instrument.note_on.Statement.{statement}
 use Rattle.instrument.proofs.Instrument.note_on.Tie as tie
 
 abbrev Inv-loop : tie.InvT-loop
-Inv-loop note velocity built self₀ barred level on k i₀ self i =
+Inv-loop note velocity built self₀ level frames number on k i₀ self i =
     (self .«voice_count» ≡ self₀ .«voice_count»)
     × (self₀ .«voice_count» ≤ 64)
     × (length (self₀ .voices) ≡ 64)
@@ -32,66 +32,72 @@ Inv-loop note velocity built self₀ barred level on k i₀ self i =
     × Moved seen (on .taken) (self₀ .«voice_count») i (self .voices) (self₀ .voices)
 
 abbrev μ-loop : tie.MeasureT-loop
-μ-loop note velocity built self₀ barred level on k i₀ self i = self₀ .«voice_count» - i
+μ-loop note velocity built self₀ level frames number on k i₀ self i = self₀ .«voice_count» - i
 
--- what is known of the state given where nothing bars the call
-given : (o : tie.After-on-of Inv-loop μ-loop) → Free (o .before .before .before .before .before .args .t1)
-given o = let b = o .before .before .before in free _ (sym (b .before .barred .ensures) ∙ b .if1 .left)
+-- a state that does not bar the call
+fine : (e : tie.Else2 Inv-loop μ-loop) → Free (e .before .before .before .before .before .args .t1)
+unfolding blockedAs
+fine e = free _ (sym (e .before .barred .ensures) ∙ e .if2 .left)
 
-few : (o : tie.After-on-of Inv-loop μ-loop) → o .before .before .before .before .before .args .t1 .«voice_count» ≤ 64
-few o = counts _ (given o .counted) .voices64
+few : (o : tie.After-on-of Inv-loop μ-loop) → o .before .before .before .before .before .before .args .t1 .«voice_count» ≤ 64
+few o = counts _ (fine (o .before) .counted) .voices64
 
 -- the state with its one voice changed
-changes : (j : tie.Joined4 Inv-loop μ-loop) → Changed (j .before .before .before .before .before .before .before .args .t1) (j .before .before .on-of .result) (j .if4 .self)
-unfolding placedAs
+changes : (j : tie.Joined4 Inv-loop μ-loop) → Changed (withFrames (j .before .before .before .before .before .before .before .before .args .t1) 0) (j .before .before .on-of .result) (j .if4 .self)
+unfolding placedAs blockedAs
 changes j =
     let o = j .before .before in
-    let s = o .before .before .before .before .before in
-    let x = s .args .t1 in
+    let s = o .before .before .before .before .before .before in
+    let x = withFrames (s .args .t1) 0 in
     let n = few o in
-    let lv = voices-long x (s .good .0) in
+    let lv = voices-long (s .args .t1) (s .good .0) in
     ⊎-elim
     (λ y. change-one x (o .on-of .result) (j .if4 .self) (y .2 .result) (y .0 .taken) (y .2 .ensures) (y .3))
     (λ y. change-none x (o .on-of .result) (j .if4 .self) (omega arith) (y .0 .left) (y .1))
     (j .if4 .came)
 
+velocity-of-requires : tie.Need-velocity-of-requires Inv-loop μ-loop
+velocity-of-requires c κs = search needs
+
+note-off-requires : tie.Need-note-off-requires Inv-loop μ-loop
+note-off-requires c κs = search needs
+
+returns : tie.Need-returns Inv-loop μ-loop
+returns c = on-off _ _ _ _ (off-is _ _ _ (c .before .before .velocity-of .ensures) (c .before .if1 .taken)) (c .note-off .result) (c .note-off .ensures)
+
+well-formed-requires : tie.Need-well-formed-requires Inv-loop μ-loop
+well-formed-requires c κs = search needs
+
 barred-requires : tie.Need-barred-requires Inv-loop μ-loop
-barred-requires c κs = search needs
+barred-requires c κs = (c .well-formed .ensures, refl)
 
 refused-requires : tie.Need-refused-requires Inv-loop μ-loop
 refused-requires c κs = search needs
 
-returns : tie.Need-returns Inv-loop μ-loop
-returns c = barred-call _ _ _ _ refl (c .before .before .barred .ensures) (c .before .if1 .taken) (c .refused .ensures)
-
-velocity-of-requires : tie.Need-velocity-of-requires Inv-loop μ-loop
-velocity-of-requires c κs = search needs
-
-off-requires : tie.Need-off-requires Inv-loop μ-loop
-off-requires c κs = let b = c .before .before in sym (b .before .barred .ensures) ∙ b .if1 .left
-
 returns-2 : tie.Need-returns-2 Inv-loop μ-loop
-returns-2 c =
-    let v = c .before .before in
-    let b = v .before in
-    let z = sym (b .before .barred .ensures) ∙ b .if1 .left in
-    on-off _ (free _ z) _ _ _ _ (off-is _ _ _ (v .velocity-of .ensures) (c .before .if2 .taken)) (c .off .ensures)
+unfolding blockedAs
+returns-2 c = barred-call _ _ _ _ refl (c .before .before .barred .ensures) (c .before .if2 .taken) (c .refused .ensures)
 
 on-of-requires : tie.Need-on-of-requires Inv-loop μ-loop
-on-of-requires c κs = let b = c .before .before in sym (b .before .barred .ensures) ∙ b .if1 .left
+unfolding blockedAs
+on-of-requires c κs = shut-passes _ (fine c)
 
 refused-requires-2 : tie.Need-refused-requires-2 Inv-loop μ-loop
 refused-requires-2 c κs = search needs
 
 returns-3 : tie.Need-returns-3 Inv-loop μ-loop
+unfolding blockedAs
 returns-3 c =
     let t = c .before in
     let o = t .before in
     let e = o .before in
-    let v = e .before in
-    let b = v .before in
-    let z = sym (b .before .barred .ensures) ∙ b .if1 .left in
-    on-refused _ (free _ z) _ _ _ _ (off-is _ _ _ (v .velocity-of .ensures) (e .if2 .left)) _ (v .velocity-of .ensures) _ (o .on-of .ensures) (t .if3 .taken) (c .refused2 .ensures)
+    let z = e .before .before .before in
+    let v = z .before in
+    let a = v .before .args in
+    let f = fine e in
+    of-shut _ f _ (c .refused2 .result)
+    (on-refused _ (shut-free _ f) (a .note) (a .velocity) (a .built) (c .refused2 .result) (off-is _ _ _ (v .velocity-of .ensures) (z .if1 .left)) _ (v .velocity-of .ensures) _ (o .on-of .ensures) (t .if3 .taken)
+    (c .refused2 .ensures ∙ ap (λ (s : Instrument). refusedAs s 8) (sym (shut _ f))))
 
 mul-changed : tie.Need-mul-changed Inv-loop μ-loop
 mul-changed c = let n = few (c .before .before) in omega arith
@@ -102,8 +108,8 @@ element-copy-out-changed c = let n = few (c .before .before) in omega arith
 changed-requires : tie.Need-changed-requires Inv-loop μ-loop
 changed-requires c κs = search needs
 
-mul-t28 : tie.Need-mul-t28 Inv-loop μ-loop
-mul-t28 c = let n = few (c .before .before .before .before) in omega arith
+mul-t30 : tie.Need-mul-t30 Inv-loop μ-loop
+mul-t30 c = let n = few (c .before .before .before .before) in omega arith
 
 element-set-from-self : tie.Need-element-set-from-self Inv-loop μ-loop
 element-set-from-self c = let n = few (c .before .before .before .before) in omega arith
@@ -116,14 +122,14 @@ add-i c =
     omega (arith, n, w)
 
 loop-holds : tie.Need-loop-holds Inv-loop μ-loop
-unfolding placedAs
+unfolding placedAs blockedAs
 loop-holds c =
     let j = c .before in
     let o = j .before .before in
-    let s = o .before .before .before .before .before in
+    let s = o .before .before .before .before .before .before in
     let u = changes j in
     let n = few o in
-    let k = same-count (s .args .t1) (o .on-of .result) (j .if4 .self) u (let lv = voices-long (s .args .t1) (s .good .0) in omega arith) in
+    let k = same-count (withFrames (s .args .t1) 0) (o .on-of .result) (j .if4 .self) u (let lv = voices-long (s .args .t1) (s .good .0) in omega arith) in
     (refl, omega (arith, n, k), u .size ∙ voices-long (s .args .t1) (s .good .0), refl, moved-start seen (o .on-of .result .taken) (j .if4 .self .«voice_count») (j .if4 .self .voices))
 
 mul-self : tie.Need-mul-self Inv-loop μ-loop
@@ -132,11 +138,11 @@ mul-self c = let b = c .before in let h = b .loop .inv .1 in let e = b .loop .in
 element-copy-out-self : tie.Need-element-copy-out-self Inv-loop μ-loop
 element-copy-out-self c = let b = c .before in let h = b .loop .inv .1 in let e = b .loop .inv .0 in omega (arith, h, e)
 
-sub-t36 : tie.Need-sub-t36 Inv-loop μ-loop
-sub-t36 c = let b = c .before .before in let h = b .loop .inv .4 .behind in omega (arith, h)
+sub-t38 : tie.Need-sub-t38 Inv-loop μ-loop
+sub-t38 c = let b = c .before .before in let h = b .loop .inv .4 .behind in omega (arith, h)
 
-mul-t37 : tie.Need-mul-t37 Inv-loop μ-loop
-mul-t37 c = let b = c .before .before in let h = b .loop .inv .1 in let e = b .loop .inv .0 in omega (arith, h, e)
+mul-t39 : tie.Need-mul-t39 Inv-loop μ-loop
+mul-t39 c = let b = c .before .before in let h = b .loop .inv .1 in let e = b .loop .inv .0 in omega (arith, h, e)
 
 element-set-from-self-2 : tie.Need-element-set-from-self-2 Inv-loop μ-loop
 element-set-from-self-2 c = let b = c .before .before in let h = b .loop .inv .1 in let e = b .loop .inv .0 in omega (arith, h, e)
@@ -148,7 +154,7 @@ loop-less : tie.Need-loop-less Inv-loop μ-loop
 loop-less c = let b = c .before .before in let h = b .loop .inv .1 in let e = b .loop .inv .0 in omega (arith, h, e)
 
 loop-again : tie.Need-loop-again Inv-loop μ-loop
-unfolding placedAs
+unfolding placedAs blockedAs
 loop-again c =
     let b = c .before .before in
     let v = b .loop .inv in
@@ -185,17 +191,19 @@ answered-requires : tie.Need-answered-requires Inv-loop μ-loop
 answered-requires c κs = search needs
 
 returns-4 : tie.Need-returns-4 Inv-loop μ-loop
-unfolding placedAs view
+unfolding placedAs blockedAs view
 returns-4 c =
     let q = c .before .before in
     let b = q .before .before in
     let j = b .before .before in
     let o = j .before .before in
     let e = o .before in
-    let v = e .before in
-    let s = v .before .before .before in
-    let x = s .args .t1 in
-    let lv = voices-long x (s .good .0) in
+    let z = e .before .before .before in
+    let v = z .before in
+    let s = v .before in
+    let x = withFrames (s .args .t1) 0 in
+    let f = shut-free _ (fine e) in
+    let lv = voices-long (s .args .t1) (s .good .0) in
     let on = o .on-of .result in
     let a = o .on-of .ensures in
     let u = changes j in
@@ -206,17 +214,18 @@ returns-4 c =
     let all : t ≡ tabledAs x (t .voices) = w .3 ∙ ap (λ (y : Instrument). tabledAs y (t .voices)) (u .rest) in
     let room : x .«voice_count» ≤ length (x .voices) = omega arith in
     let size : length (t .voices) ≡ 64 = w .4 .pass .size ∙ w .2 in
-    on-done x (given o) (s .args .note) (s .args .velocity) (s .args .built) (c .answered .result) (off-is _ _ _ (v .velocity-of .ensures) (e .if2 .left)) _ (v .velocity-of .ensures) on a (j .before .if3 .left)
+    of-shut _ (fine e) _ (c .answered .result)
+    (on-done x f (s .args .note) (s .args .velocity) (s .args .built) (c .answered .result) (off-is _ _ _ (v .velocity-of .ensures) (z .if1 .left)) _ (v .velocity-of .ensures) on a (j .before .if3 .left)
     (⊎-elim
     (λ y.
     let ws = set (t .voices) (on .count - 1) (y .2 .result) in
-    let new = y .2 .ensures (view x) (subst (λ (d : InstrumentDesign). isAccepted d ≡ true) (sym (ap (λ (y : Instrument). y .design) all)) (parts-of x lv (held-long x (s .good .0)) (given o .formed) .design)) (sym (ap (λ (y : Instrument). y .design) all)) (sym (ap (λ (y : Instrument). y .bend) all)) (sym (ap (λ (y : Instrument). y .brightness) all)) (sym (ap (λ (y : Instrument). y .«next_handle») all)) in
+    let new = y .2 .ensures (view x) (subst (λ (d : InstrumentDesign). isAccepted d ≡ true) (sym (ap (λ (y : Instrument). y .design) all)) (parts-of x lv (held-long (s .args .t1) (s .good .0)) (f .formed) .design)) (sym (ap (λ (y : Instrument). y .design) all)) (sym (ap (λ (y : Instrument). y .bend) all)) (sym (ap (λ (y : Instrument). y .brightness) all)) (sym (ap (λ (y : Instrument). y .«next_handle») all)) in
     rw (c .answered .ensures ∙ ap (answeredAs (on .reply)) (carried x (j .if4 .self) t (q .if5 .self) (t .voices) ws (j .if4 .self .voices) on (u .rest) (w .3) (y .4)))
     (a .more (j .before .if3 .left) (y .0 .taken) (y .2 .result) ws (new ∙ ap (λ (d : InstrumentDesign). record { voice = newVoice (view x) (s .args .note) (v .velocity-of .result); count = copiesOf d }) (ap (λ (y : Instrument). y .design) all)) (edited-more x on (j .if4 .self) u room t (b .loop .i) (w .4) end (y .2 .result) size (a .room) (a .size) (y .0 .taken))))
     (λ y.
     rw (c .answered .ensures ∙ ap (answeredAs (on .reply)) (carried x (j .if4 .self) t (q .if5 .self) (t .voices) (t .voices) (j .if4 .self .voices) on (u .rest) (w .3) (y .1)))
     (a .same (j .before .if3 .left) (y .0 .left) (t .voices) (edited-same x on (j .if4 .self) u room t (b .loop .i) (w .4) end (a .size) (y .0 .left))))
-    (q .if5 .came))
+    (q .if5 .came)))
 
 pub note-on-spec : {M : Type 1} → statement M
 note-on-spec =
@@ -224,11 +233,12 @@ note-on-spec =
     (tie.spec
     Inv-loop
     μ-loop
+    velocity-of-requires
+    note-off-requires
+    returns
+    well-formed-requires
     barred-requires
     refused-requires
-    returns
-    velocity-of-requires
-    off-requires
     returns-2
     on-of-requires
     refused-requires-2
@@ -236,14 +246,14 @@ note-on-spec =
     mul-changed
     element-copy-out-changed
     changed-requires
-    mul-t28
+    mul-t30
     element-set-from-self
     add-i
     loop-holds
     mul-self
     element-copy-out-self
-    sub-t36
-    mul-t37
+    sub-t38
+    mul-t39
     element-set-from-self-2
     add-i-2
     loop-less

@@ -12,35 +12,39 @@ use Rattle.model.specs.Types.{Call}
 use Rattle.voice.specs.View.{shown}
 use Rattle.voice.proofs.Sizes.{pastEnd}
 use Rattle.instrument.specs.declared.Instrument.{Instrument}
-use Rattle.instrument.specs.Calls.{refusalOf, answeredAs}
+use Rattle.instrument.specs.Calls.{refusalOf, answeredAs, blockedAs}
 use Rattle.instrument.specs.declared.Reply.the-variants.{Planned}
-use Rattle.instrument.proofs.States.{blockedAs}
 use Rattle.instrument.proofs.Sizes.{voices-long}
 use Rattle.instrument.proofs.Planning.{Planning, planning-start, voice-room, voice-glides, voice-stays, four-room, four-glide, planned-voices, planned-curve, planned-state}
-use Rattle.instrument.proofs.Plans.{ModulatedAs, modulated-on, modulated-off, plan-refused, plan-fits, plan-room, plan-even, plan-size, plan-done}
+use Rattle.instrument.proofs.Plans.{ModulatedAs, modulated-on, modulated-off, plan-refused, plan-taken, plan-fits, plan-room, plan-even, plan-size, plan-done}
 use Rattle.instrument.proofs.Instrument.plan.Statement.{statement}
 use Rattle.instrument.proofs.Instrument.plan.Tie as tie
 
 abbrev Inv-loop : tie.InvT-loop
-Inv-loop frames vib flt sin curve₀ self₀ number n at₀ i₀ curve self at i = Planning self₀ frames curve₀ self curve at i
+Inv-loop frames vib flt sin curve₀ self₀ opened number n at₀ i₀ curve self at i = Planning self₀ frames curve₀ self curve at i
 
 abbrev μ-loop : tie.MeasureT-loop
-μ-loop frames vib flt sin curve₀ self₀ number n at₀ i₀ curve self at i = n - i
+μ-loop frames vib flt sin curve₀ self₀ opened number n at₀ i₀ curve self at i = n - i
 
 -- past the refusals
-accepted : (c : tie.Else1 Inv-loop μ-loop) → let a = c .before .before .before .args in refusalOf (a .t1) (Call.plan (a .frames) (a .vib) (a .flt) (a .sin) (a .curve .now)) ≡ 0
+accepted : (c : tie.Else1 Inv-loop μ-loop) → let a = c .before .before .before .before .args in refusalOf (a .t1) (Call.plan (a .frames) (a .vib) (a .flt) (a .sin) (a .curve .now)) ≡ 0
+unfolding blockedAs
 accepted c = sym (c .before .plan-refusal .ensures _ _ _ _ refl) ∙ c .if1 .left
 
 -- the state that the loop begins with
 module _ (j : tie.Joined2 Inv-loop μ-loop) where
-  modulates : let a = j .before .before .before .before .before .before .args in ModulatedAs (a .t1) (a .frames) (a .vib) (a .flt) (a .sin) (j .if2 .self)
+  abbrev start : tie.Start Inv-loop μ-loop
+  start = j .before .before .before .before .before .before .before
+
+  modulates : let a = start .args in ModulatedAs (a .t1) (a .frames) (a .vib) (a .flt) (a .sin) (j .if2 .self)
+  unfolding blockedAs
   modulates =
       let active = j .before .modulated .ensures in
-      ⊎-elim (λ x. rw (x .2) (modulated-on _ _ _ _ _ _ (sym active ∙ x .0 .taken) (x .1 .ensures))) (λ x. rw (x .1) (modulated-off _ _ _ _ _ (sym active ∙ x .0 .left))) (j .if2 .came)
+      plan-taken _ _ _ _ _ _ (accepted (j .before .before .before)) _
+      (⊎-elim (λ x. rw (x .2) (modulated-on _ _ _ _ _ _ (sym active ∙ x .0 .taken) (x .1 .ensures))) (λ x. rw (x .1) (modulated-off _ _ _ _ _ (sym active ∙ x .0 .left))) (j .if2 .came))
 
   long : length (j .if2 .self .voices) ≡ 64
   long =
-      let start = j .before .before .before .before .before .before in
       let size : Instrument → ℕ = λ (s : Instrument). length (s .voices) in
       ⊎-elim (λ x. ap size (x .2) ∙ voices-long (x .1 .result) (x .1 .ok)) (λ x. ap size (x .1) ∙ voices-long (start .args .t1) (start .good .0)) (j .if2 .came)
 
@@ -49,7 +53,7 @@ module _ (j : tie.Joined2 Inv-loop μ-loop) where
 
 -- the part of the curve of the voice that is read
 module _ (d : tie.After-copies-shown Inv-loop μ-loop) where
-  ends : let b = d .before .before .before in b .loop .at + b .before .before .before .before .before .before .before .args .frames * d .copies-shown .result ≤ length (b .loop .curve)
+  ends : let b = d .before .before .before in b .loop .at + start (b .before) .args .frames * d .copies-shown .result ≤ length (b .loop .curve)
   ends =
       let b = d .before .before .before in
       let j = b .before in
@@ -76,18 +80,22 @@ module _ (e : tie.Then4 Inv-loop μ-loop) where
   one : length (shown (getD (turn .loop .self .voices) (turn .loop .i) pastEnd) .copies) ≡ 1
   one = sym (counted .copies-shown .ensures .1) ∙ tests .1
 
-  four-ends : turn .loop .at + turn .before .before .before .before .before .before .before .args .frames * 4 ≤ length (turn .loop .curve)
+  four-ends : turn .loop .at + start (turn .before) .args .frames * 4 ≤ length (turn .loop .curve)
   four-ends =
       let j = turn .before in
       four-room (j .if2 .self) _ _ (long j) (room j) (turn .loop .inv) _ (plan-even _ _ _ _ _ _ (accepted (j .before .before .before)) _ (modulates j)) (tests .0) one _ refl
 
+well-formed-requires : tie.Need-well-formed-requires Inv-loop μ-loop
+well-formed-requires c κs = search needs
+
 plan-refusal-requires : tie.Need-plan-refusal-requires Inv-loop μ-loop
-plan-refusal-requires c κs = search needs
+plan-refusal-requires c κs = (c .well-formed .ensures, refl)
 
 refused-requires : tie.Need-refused-requires Inv-loop μ-loop
 refused-requires c κs = search needs
 
 returns : tie.Need-returns Inv-loop μ-loop
+unfolding blockedAs
 returns c = plan-refused _ _ _ _ _ _ _ _ (c .before .before .plan-refusal .ensures _ _ _ _ refl) (c .before .if1 .taken) (c .refused .ensures)
 
 modulated-requires : tie.Need-modulated-requires Inv-loop μ-loop
@@ -121,7 +129,7 @@ stands-requires : tie.Need-stands-requires Inv-loop μ-loop
 stands-requires c κs = search needs
 
 mul-write-voice : tie.Need-mul-write-voice Inv-loop μ-loop
-mul-write-voice c = omega (arith, ends (c .before .before))
+mul-write-voice c = let e = ends (c .before .before) in omega (arith, e)
 
 sub-write-voice : tie.Need-sub-write-voice Inv-loop μ-loop
 sub-write-voice c = omega arith
@@ -135,137 +143,152 @@ part-write-voice-end c = let e = ends (c .before .before) in omega (arith, e)
 write-voice-requires : tie.Need-write-voice-requires Inv-loop μ-loop
 write-voice-requires c κs = search needs
 
-loop-less : tie.Need-loop-less Inv-loop μ-loop
-loop-less c = omega arith
-
-loop-again : tie.Need-loop-again Inv-loop μ-loop
-loop-again c =
-    let g = c .before .before in
-    let n = g .before .before in
-    let d = n .before .before in
-    let b = d .before .before .before in
-    let j = b .before in
-    let rows = d .copies-shown .result in
-    let frames = j .before .before .before .before .before .before .args .frames in
-    let k : b .loop .at + frames * rows - b .loop .at ≡ frames * rows = omega arith in
-    let v = getD (b .loop .self .voices) (b .loop .i) pastEnd in
-    voice-stays (j .if2 .self) _ _ (long j) (room j) (b .loop .inv) (d .before .before .loop-test .taken) v (pass-read pastEnd (b .loop .inv .pass)) rows (d .copies-shown .ensures .1) refl _ _ _ k (n .before .stands .ensures .stays (n .if3 .taken) frames) (g .write-voice .ensures) refl
-
 sub-side-by-side : tie.Need-sub-side-by-side Inv-loop μ-loop
 sub-side-by-side c = omega arith
 
 side-by-side-requires : tie.Need-side-by-side-requires Inv-loop μ-loop
 side-by-side-requires c κs = search needs
 
-mul-last : tie.Need-mul-last Inv-loop μ-loop
-mul-last c = let q = four-ends c in omega (arith, q)
+mul-end-2 : tie.Need-mul-end-2 Inv-loop μ-loop
+mul-end-2 c = let q = four-ends c in omega (arith, q)
 
-add-last : tie.Need-add-last Inv-loop μ-loop
-add-last c = let q = four-ends c in omega (arith, q)
+add-end-2 : tie.Need-add-end-2 Inv-loop μ-loop
+add-end-2 c = let q = four-ends c in omega (arith, q)
 
-mul-self : tie.Need-mul-self Inv-loop μ-loop
-mul-self c = let p = places c in omega (arith, p .0, p .1)
+mul-with-head : tie.Need-mul-with-head Inv-loop μ-loop
+mul-with-head c = let p = places c in omega (arith, p .0, p .1)
 
-element-copy-out-self : tie.Need-element-copy-out-self Inv-loop μ-loop
-element-copy-out-self c = let p = places c in omega (arith, p .0, p .1)
+element-copy-out-with-head : tie.Need-element-copy-out-with-head Inv-loop μ-loop
+element-copy-out-with-head c = let p = places c in omega (arith, p .0, p .1)
 
 add-self : tie.Need-add-self Inv-loop μ-loop
 add-self c = let p = places (c .before) in omega (arith, p .0, p .1)
 
-mul-self-2 : tie.Need-mul-self-2 Inv-loop μ-loop
-mul-self-2 c = let p = places (c .before) in omega (arith, p .0, p .1)
+mul-self : tie.Need-mul-self Inv-loop μ-loop
+mul-self c = let p = places (c .before) in omega (arith, p .0, p .1)
 
-element-copy-out-self-2 : tie.Need-element-copy-out-self-2 Inv-loop μ-loop
-element-copy-out-self-2 c = let p = places (c .before) in omega (arith, p .0, p .1)
+element-copy-out-self : tie.Need-element-copy-out-self Inv-loop μ-loop
+element-copy-out-self c = let p = places (c .before) in omega (arith, p .0, p .1)
 
 add-self-2 : tie.Need-add-self-2 Inv-loop μ-loop
 add-self-2 c = let p = places (c .before .before) in omega (arith, p .0, p .1)
 
+mul-self-2 : tie.Need-mul-self-2 Inv-loop μ-loop
+mul-self-2 c = let p = places (c .before .before) in omega (arith, p .0, p .1)
+
+element-copy-out-self-2 : tie.Need-element-copy-out-self-2 Inv-loop μ-loop
+element-copy-out-self-2 c = let p = places (c .before .before) in omega (arith, p .0, p .1)
+
+mul-glide-heads : tie.Need-mul-glide-heads Inv-loop μ-loop
+mul-glide-heads c = let q = four-ends (c .before .before .before) in omega (arith, q)
+
+sub-glide-heads : tie.Need-sub-glide-heads Inv-loop μ-loop
+sub-glide-heads c = omega arith
+
+part-glide-heads-start : tie.Need-part-glide-heads-start Inv-loop μ-loop
+part-glide-heads-start c = search needs
+
+part-glide-heads-end : tie.Need-part-glide-heads-end Inv-loop μ-loop
+part-glide-heads-end c = let q = four-ends (c .before .before .before) in omega (arith, q)
+
+glide-heads-requires : tie.Need-glide-heads-requires Inv-loop μ-loop
+glide-heads-requires c κs = search needs
+
+sub-with-head : tie.Need-sub-with-head Inv-loop μ-loop
+sub-with-head c = let p = places (c .before .before .before .before .before .before .before) in omega (arith, p .0, p .1)
+
+mul-with-head-2 : tie.Need-mul-with-head-2 Inv-loop μ-loop
+mul-with-head-2 c = let p = places (c .before .before .before .before .before .before .before) in omega (arith, p .0, p .1)
+
+element-copy-out-with-head-2 : tie.Need-element-copy-out-with-head-2 Inv-loop μ-loop
+element-copy-out-with-head-2 c = let p = places (c .before .before .before .before .before .before .before) in omega (arith, p .0, p .1)
+
+array-copy-out-with-head : tie.Need-array-copy-out-with-head Inv-loop μ-loop
+array-copy-out-with-head c = search needs
+
+with-head-requires : tie.Need-with-head-requires Inv-loop μ-loop
+with-head-requires c κs = search needs
+
+sub-with-head-2 : tie.Need-sub-with-head-2 Inv-loop μ-loop
+sub-with-head-2 c = let p = places (c .before .before .before .before .before .before .before .before .before .before) in omega (arith, p .0, p .1)
+
+mul-with-head-3 : tie.Need-mul-with-head-3 Inv-loop μ-loop
+mul-with-head-3 c = let p = places (c .before .before .before .before .before .before .before .before .before .before) in omega (arith, p .0, p .1)
+
+element-set-from-with-head : tie.Need-element-set-from-with-head Inv-loop μ-loop
+element-set-from-with-head c = let p = places (c .before .before .before .before .before .before .before .before .before .before) in omega (arith, p .0, p .1)
+
+mul-with-head-4 : tie.Need-mul-with-head-4 Inv-loop μ-loop
+mul-with-head-4 c = let p = places (c .before .before .before .before .before .before .before .before .before .before) in omega (arith, p .0, p .1)
+
+element-copy-out-with-head-3 : tie.Need-element-copy-out-with-head-3 Inv-loop μ-loop
+element-copy-out-with-head-3 c = let p = places (c .before .before .before .before .before .before .before .before .before .before) in omega (arith, p .0, p .1)
+
+array-copy-out-with-head-2 : tie.Need-array-copy-out-with-head-2 Inv-loop μ-loop
+array-copy-out-with-head-2 c = search needs
+
+with-head-requires-2 : tie.Need-with-head-requires-2 Inv-loop μ-loop
+with-head-requires-2 c κs = search needs
+
 mul-self-3 : tie.Need-mul-self-3 Inv-loop μ-loop
-mul-self-3 c = let p = places (c .before .before) in omega (arith, p .0, p .1)
-
-element-copy-out-self-3 : tie.Need-element-copy-out-self-3 Inv-loop μ-loop
-element-copy-out-self-3 c = let p = places (c .before .before) in omega (arith, p .0, p .1)
-
-mul-glide-voices : tie.Need-mul-glide-voices Inv-loop μ-loop
-mul-glide-voices c = let q = four-ends (c .before .before .before) in omega (arith, q)
-
-sub-glide-voices : tie.Need-sub-glide-voices Inv-loop μ-loop
-sub-glide-voices c = omega arith
-
-part-glide-voices-start : tie.Need-part-glide-voices-start Inv-loop μ-loop
-part-glide-voices-start c = search needs
-
-part-glide-voices-end : tie.Need-part-glide-voices-end Inv-loop μ-loop
-part-glide-voices-end c = let q = four-ends (c .before .before .before) in omega (arith, q)
-
-glide-voices-requires : tie.Need-glide-voices-requires Inv-loop μ-loop
-glide-voices-requires c κs = search needs
-
-array-copy-out-self : tie.Need-array-copy-out-self Inv-loop μ-loop
-array-copy-out-self c = search needs
-
-sub-t44 : tie.Need-sub-t44 Inv-loop μ-loop
-sub-t44 c = let p = places (c .before .before .before .before .before .before .before .before) in omega (arith, p .0, p .1)
-
-mul-t40 : tie.Need-mul-t40 Inv-loop μ-loop
-mul-t40 c = let p = places (c .before .before .before .before .before .before .before .before) in omega (arith, p .0, p .1)
+mul-self-3 c = let p = places (c .before .before .before .before .before .before .before .before .before .before .before .before .before) in omega (arith, p .0, p .1)
 
 element-set-from-self : tie.Need-element-set-from-self Inv-loop μ-loop
-element-set-from-self c = let p = places (c .before .before .before .before .before .before .before .before) in omega (arith, p .0, p .1)
+element-set-from-self c = let p = places (c .before .before .before .before .before .before .before .before .before .before .before .before .before) in omega (arith, p .0, p .1)
 
-array-copy-out-self-2 : tie.Need-array-copy-out-self-2 Inv-loop μ-loop
-array-copy-out-self-2 c = search needs
+add-with-head : tie.Need-add-with-head Inv-loop μ-loop
+add-with-head c = let p = places (c .before .before .before .before .before .before .before .before .before .before .before .before .before) in omega (arith, p .0, p .1)
 
-mul-self-4 : tie.Need-mul-self-4 Inv-loop μ-loop
-mul-self-4 c = let p = places (c .before .before .before .before .before .before .before .before .before) in omega (arith, p .0, p .1)
+mul-with-head-5 : tie.Need-mul-with-head-5 Inv-loop μ-loop
+mul-with-head-5 c = let p = places (c .before .before .before .before .before .before .before .before .before .before .before .before .before) in omega (arith, p .0, p .1)
+
+element-copy-out-with-head-4 : tie.Need-element-copy-out-with-head-4 Inv-loop μ-loop
+element-copy-out-with-head-4 c = let p = places (c .before .before .before .before .before .before .before .before .before .before .before .before .before) in omega (arith, p .0, p .1)
+
+array-copy-out-with-head-3 : tie.Need-array-copy-out-with-head-3 Inv-loop μ-loop
+array-copy-out-with-head-3 c = search needs
+
+with-head-requires-3 : tie.Need-with-head-requires-3 Inv-loop μ-loop
+with-head-requires-3 c κs = search needs
+
+add-with-head-2 : tie.Need-add-with-head-2 Inv-loop μ-loop
+add-with-head-2 c = let p = places (c .before .before .before .before .before .before .before .before .before .before .before .before .before .before .before .before) in omega (arith, p .0, p .1)
+
+mul-with-head-6 : tie.Need-mul-with-head-6 Inv-loop μ-loop
+mul-with-head-6 c = let p = places (c .before .before .before .before .before .before .before .before .before .before .before .before .before .before .before .before) in omega (arith, p .0, p .1)
+
+element-set-from-with-head-2 : tie.Need-element-set-from-with-head-2 Inv-loop μ-loop
+element-set-from-with-head-2 c = let p = places (c .before .before .before .before .before .before .before .before .before .before .before .before .before .before .before .before) in omega (arith, p .0, p .1)
+
+add-with-head-3 : tie.Need-add-with-head-3 Inv-loop μ-loop
+add-with-head-3 c = let p = places (c .before .before .before .before .before .before .before .before .before .before .before .before .before .before .before .before) in omega (arith, p .0, p .1)
+
+mul-with-head-7 : tie.Need-mul-with-head-7 Inv-loop μ-loop
+mul-with-head-7 c = let p = places (c .before .before .before .before .before .before .before .before .before .before .before .before .before .before .before .before) in omega (arith, p .0, p .1)
+
+element-copy-out-with-head-5 : tie.Need-element-copy-out-with-head-5 Inv-loop μ-loop
+element-copy-out-with-head-5 c = let p = places (c .before .before .before .before .before .before .before .before .before .before .before .before .before .before .before .before) in omega (arith, p .0, p .1)
+
+array-copy-out-with-head-4 : tie.Need-array-copy-out-with-head-4 Inv-loop μ-loop
+array-copy-out-with-head-4 c = search needs
+
+with-head-requires-4 : tie.Need-with-head-requires-4 Inv-loop μ-loop
+with-head-requires-4 c κs = search needs
+
+add-t46 : tie.Need-add-t46 Inv-loop μ-loop
+add-t46 c = let p = places (c .before .before .before .before .before .before .before .before .before .before .before .before .before .before .before .before .before .before .before) in omega (arith, p .0, p .1)
+
+mul-t41 : tie.Need-mul-t41 Inv-loop μ-loop
+mul-t41 c = let p = places (c .before .before .before .before .before .before .before .before .before .before .before .before .before .before .before .before .before .before .before) in omega (arith, p .0, p .1)
 
 element-set-from-self-2 : tie.Need-element-set-from-self-2 Inv-loop μ-loop
-element-set-from-self-2 c = let p = places (c .before .before .before .before .before .before .before .before .before) in omega (arith, p .0, p .1)
-
-array-copy-out-self-3 : tie.Need-array-copy-out-self-3 Inv-loop μ-loop
-array-copy-out-self-3 c = search needs
-
-add-t44 : tie.Need-add-t44 Inv-loop μ-loop
-add-t44 c = let p = places (c .before .before .before .before .before .before .before .before .before .before) in omega (arith, p .0, p .1)
-
-mul-t50 : tie.Need-mul-t50 Inv-loop μ-loop
-mul-t50 c = let p = places (c .before .before .before .before .before .before .before .before .before .before) in omega (arith, p .0, p .1)
-
-element-set-from-self-3 : tie.Need-element-set-from-self-3 Inv-loop μ-loop
-element-set-from-self-3 c = let p = places (c .before .before .before .before .before .before .before .before .before .before) in omega (arith, p .0, p .1)
-
-array-copy-out-self-4 : tie.Need-array-copy-out-self-4 Inv-loop μ-loop
-array-copy-out-self-4 c = search needs
-
-add-t50 : tie.Need-add-t50 Inv-loop μ-loop
-add-t50 c = let p = places (c .before .before .before .before .before .before .before .before .before .before .before) in omega (arith, p .0, p .1)
-
-mul-t44 : tie.Need-mul-t44 Inv-loop μ-loop
-mul-t44 c = let p = places (c .before .before .before .before .before .before .before .before .before .before .before) in omega (arith, p .0, p .1)
-
-element-set-from-self-4 : tie.Need-element-set-from-self-4 Inv-loop μ-loop
-element-set-from-self-4 c = let p = places (c .before .before .before .before .before .before .before .before .before .before .before) in omega (arith, p .0, p .1)
+element-set-from-self-2 c = let p = places (c .before .before .before .before .before .before .before .before .before .before .before .before .before .before .before .before .before .before .before) in omega (arith, p .0, p .1)
 
 add-i-2 : tie.Need-add-i-2 Inv-loop μ-loop
-add-i-2 c = let p = places (c .before .before .before .before .before .before .before .before .before .before .before) in omega (arith, p .0, p .1)
-
-loop-less-2 : tie.Need-loop-less-2 Inv-loop μ-loop
-loop-less-2 c = let p = places (c .before .before .before .before .before .before .before .before .before .before .before) in omega (arith, p .0, p .1)
-
-loop-again-2 : tie.Need-loop-again-2 Inv-loop μ-loop
-unfolding blockedAs
-loop-again-2 c =
-    let g = c .before .before .before .before .before .before in
-    let e = g .before .before .before .before .before in
-    let b = turn e in
-    let j = b .before in
-    let frames = j .before .before .before .before .before .before .args .frames in
-    let q : b .loop .at + frames * 4 - b .loop .at ≡ frames * 4 = omega arith in
-    four-glide (j .if2 .self) _ _ (long j) (room j) (b .loop .inv) _ (plan-even _ _ _ _ _ _ (accepted (j .before .before .before)) _ (modulates j)) (tests e .0) (one e) _ refl (g .glide-voices .result) _ _ _ _ q (g .glide-voices .ensures) refl refl
+add-i-2 c = let p = places (c .before .before .before .before .before .before .before .before .before .before .before .before .before .before .before .before .before .before .before) in omega (arith, p .0, p .1)
 
 mul-glide-voice : tie.Need-mul-glide-voice Inv-loop μ-loop
-mul-glide-voice c = omega (arith, ends (c .before .before .before .before))
+mul-glide-voice c = let e = ends (c .before .before .before .before) in omega (arith, e)
 
 sub-glide-voice : tie.Need-sub-glide-voice Inv-loop μ-loop
 sub-glide-voice c = omega arith
@@ -279,14 +302,45 @@ part-glide-voice-end c = let e = ends (c .before .before .before .before) in ome
 glide-voice-requires : tie.Need-glide-voice-requires Inv-loop μ-loop
 glide-voice-requires c κs = search needs
 
-sub-t80 : tie.Need-sub-t80 Inv-loop μ-loop
-sub-t80 c = omega (arith, room (c .before .before .before .before .before .before .before .before .before .before .before .before))
+sub-t90 : tie.Need-sub-t90 Inv-loop μ-loop
+sub-t90 c = omega (arith, room (c .before .before .before .before .before .before .before .before .before .before .before .before))
 
-mul-t81 : tie.Need-mul-t81 Inv-loop μ-loop
-mul-t81 c = omega (arith, room (c .before .before .before .before .before .before .before .before .before .before .before .before))
+mul-t91 : tie.Need-mul-t91 Inv-loop μ-loop
+mul-t91 c = omega (arith, room (c .before .before .before .before .before .before .before .before .before .before .before .before))
 
-element-set-from-self-5 : tie.Need-element-set-from-self-5 Inv-loop μ-loop
-element-set-from-self-5 c = omega (arith, room (c .before .before .before .before .before .before .before .before .before .before .before .before))
+element-set-from-self-3 : tie.Need-element-set-from-self-3 Inv-loop μ-loop
+element-set-from-self-3 c = omega (arith, room (c .before .before .before .before .before .before .before .before .before .before .before .before))
+
+loop-less : tie.Need-loop-less Inv-loop μ-loop
+loop-less c = omega arith
+
+loop-again : tie.Need-loop-again Inv-loop μ-loop
+loop-again c =
+    let g = c .before .before in
+    let n = g .before .before in
+    let d = n .before .before in
+    let b = d .before .before .before in
+    let j = b .before in
+    let rows = d .copies-shown .result in
+    let frames = start j .args .frames in
+    let k : b .loop .at + frames * rows - b .loop .at ≡ frames * rows = omega arith in
+    let v = getD (b .loop .self .voices) (b .loop .i) pastEnd in
+    voice-stays (j .if2 .self) _ _ (long j) (room j) (b .loop .inv) (d .before .before .loop-test .taken) v (pass-read pastEnd (b .loop .inv .pass)) rows (d .copies-shown .ensures .1) refl _ _ _ k (n .before .stands .ensures .stays (n .if3 .taken) frames) (g .write-voice .ensures) refl
+
+loop-less-2 : tie.Need-loop-less-2 Inv-loop μ-loop
+loop-less-2 c = let p = places (c .before .before .before .before .before .before .before .before .before .before .before .before .before .before .before .before .before .before .before) in omega (arith, p .0, p .1)
+
+loop-again-2 : tie.Need-loop-again-2 Inv-loop μ-loop
+unfolding blockedAs
+loop-again-2 c =
+    let g = c .before .before .before .before .before .before .before .before .before .before .before .before .before .before in
+    let e = g .before .before .before .before .before in
+    let b = turn e in
+    let j = b .before in
+    let frames = start j .args .frames in
+    let q : b .loop .at + frames * 4 - b .loop .at ≡ frames * 4 = omega arith in
+    four-glide (j .if2 .self) _ _ (long j) (room j) (b .loop .inv) _ (plan-even _ _ _ _ _ _ (accepted (j .before .before .before)) _ (modulates j)) (tests e .0) (one e) _ refl (g .glide-heads .result) _ _ _ _ _ _ _ _ q (g .glide-heads .ensures) refl
+    (c .before .before .before .before .before .before .before .before .before .with-head .ensures) (c .before .before .before .before .before .before .with-head2 .ensures) (c .before .before .before .with-head3 .ensures) (c .with-head4 .ensures) refl
 
 loop-less-3 : tie.Need-loop-less-3 Inv-loop μ-loop
 loop-less-3 c = omega arith
@@ -299,7 +353,7 @@ loop-again-3 c =
     let b = d .before .before .before in
     let j = b .before in
     let rows = d .copies-shown .result in
-    let frames = j .before .before .before .before .before .before .args .frames in
+    let frames = start j .args .frames in
     let k : b .loop .at + frames * rows - b .loop .at ≡ frames * rows = omega arith in
     let v = getD (b .loop .self .voices) (b .loop .i) pastEnd in
     voice-glides (j .if2 .self) _ _ (long j) (room j) (b .loop .inv) (d .before .before .loop-test .taken) v (pass-read pastEnd (b .loop .inv .pass)) rows (d .copies-shown .ensures .1) _ _ _ _ _ k (g .glide-voice .ensures) refl refl
@@ -327,6 +381,7 @@ plan-spec =
     (tie.spec
     Inv-loop
     μ-loop
+    well-formed-requires
     plan-refusal-requires
     refused-requires
     returns
@@ -345,51 +400,66 @@ plan-spec =
     part-write-voice-start
     part-write-voice-end
     write-voice-requires
-    loop-less
-    loop-again
     sub-side-by-side
     side-by-side-requires
-    mul-last
-    add-last
+    mul-end-2
+    add-end-2
+    mul-with-head
+    element-copy-out-with-head
+    add-self
     mul-self
     element-copy-out-self
-    add-self
+    add-self-2
     mul-self-2
     element-copy-out-self-2
-    add-self-2
+    mul-glide-heads
+    sub-glide-heads
+    part-glide-heads-start
+    part-glide-heads-end
+    glide-heads-requires
+    sub-with-head
+    mul-with-head-2
+    element-copy-out-with-head-2
+    array-copy-out-with-head
+    with-head-requires
+    sub-with-head-2
+    mul-with-head-3
+    element-set-from-with-head
+    mul-with-head-4
+    element-copy-out-with-head-3
+    array-copy-out-with-head-2
+    with-head-requires-2
     mul-self-3
-    element-copy-out-self-3
-    mul-glide-voices
-    sub-glide-voices
-    part-glide-voices-start
-    part-glide-voices-end
-    glide-voices-requires
-    array-copy-out-self
-    sub-t44
-    mul-t40
     element-set-from-self
-    array-copy-out-self-2
-    mul-self-4
+    add-with-head
+    mul-with-head-5
+    element-copy-out-with-head-4
+    array-copy-out-with-head-3
+    with-head-requires-3
+    add-with-head-2
+    mul-with-head-6
+    element-set-from-with-head-2
+    add-with-head-3
+    mul-with-head-7
+    element-copy-out-with-head-5
+    array-copy-out-with-head-4
+    with-head-requires-4
+    add-t46
+    mul-t41
     element-set-from-self-2
-    array-copy-out-self-3
-    add-t44
-    mul-t50
-    element-set-from-self-3
-    array-copy-out-self-4
-    add-t50
-    mul-t44
-    element-set-from-self-4
     add-i-2
-    loop-less-2
-    loop-again-2
     mul-glide-voice
     sub-glide-voice
     part-glide-voice-start
     part-glide-voice-end
     glide-voice-requires
-    sub-t80
-    mul-t81
-    element-set-from-self-5
+    sub-t90
+    mul-t91
+    element-set-from-self-3
+    loop-less
+    loop-again
+    loop-less-2
+    loop-again-2
     loop-less-3
     loop-again-3
     answered-requires

@@ -5,7 +5,7 @@ use Prim.Native.Nat.{min, _≤_, _-_}
 use native.Mathlib.Omega.{arith}
 use borrow.Author.Needs.{needs}
 use lib.ListN.{length, take}
-use Rattle.voice.proofs.Sizes.{noCopy}
+use Rattle.voice.specs.View.{noCopy}
 use Rattle.stream.specs.declared.UnisonCopy.{UnisonCopy}
 use Rattle.wire.proofs.Loops.{Filled, fill-start, fill-more, fill-all, all-passed}
 use Rattle.wire.specs.Reads.{copyOf, copyNumbered}
