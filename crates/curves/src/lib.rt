@@ -6,7 +6,7 @@ ghost use mathlib.Core.List.{map};
 ghost use Prim.Native.Nat.{_+_, _*_, _≤_, _<_};
 ghost use lib.ListN.{length, take, replicate};
 ghost use Rattle.stream.specs.Pitch.{glideStep, stepped, heard as heardOf, GlidedOver};
-ghost use Rattle.curves.specs.Glides.{column, GlidedCopies, StandAs, StandsAs, GlidedVoice, WrittenVoice, headOf, withHead, GlidedHeads};
+ghost use Rattle.curves.specs.Glides.{column, GlidedCopies, StandAs, StandsAs, GlidedVoice, WrittenVoice, HoldsAs, headOf, withHead, MovesAs, eight, GlidedHeads};
 use lists::smaller;
 use stream::UnisonCopy;
 use voice::Voice;
@@ -239,7 +239,7 @@ fn copies_stand(copies: [UnisonCopy; 8], count: usize) -> bool
 }
 
 // Whether the voice is the same later.
-pub fn stands(v: Voice) -> bool
+fn stands(v: Voice) -> bool
     ensures { λ r. ⌜ StandsAs v r ⌝ }
 {
     // Most voices have one copy: no pass over the array.
@@ -251,7 +251,7 @@ pub fn stands(v: Voice) -> bool
 }
 
 // The numbers of a voice that stands: it need not be put back. A curve of another size is left as it is.
-pub fn write_voice(v: Voice, frames: usize, curve: &mut [f32])
+fn write_voice(v: Voice, frames: usize, curve: &mut [f32])
     ensures { λ _. ⌜ WrittenVoice frames v (now (curve .entry)) (now (curve .exit)) ⌝ }
 {
     if v.copy_count == 1 {
@@ -264,6 +264,17 @@ pub fn write_voice(v: Voice, frames: usize, curve: &mut [f32])
         let copies = v.copies;
         glide_copies(copies, v.copy_count, frames, curve);
     }
+}
+
+// A voice that is the same later: its numbers are written, and it need not be put back. Of another voice nothing is written.
+pub fn hold_voice(v: Voice, frames: usize, curve: &mut [f32]) -> bool
+    ensures { λ r. ⌜ HoldsAs frames v (now (curve .entry)) (now (curve .exit)) r ⌝ }
+{
+    if !stands(v) {
+        return false;
+    }
+    write_voice(v, frames, curve);
+    true
 }
 
 // The first copy of a voice.
@@ -281,14 +292,46 @@ pub fn with_head(mut v: Voice, copy: UnisonCopy) -> Voice
     v
 }
 
-// The first copies of four voices `frames` samples later; they fill the curve, one after the other. A curve of another size is left as
-// it is. Whole voices are slow to move, so Plan puts the copies back by itself.
-pub fn glide_heads(vs: [Voice; 4], frames: usize, curve: &mut [f32]) -> [UnisonCopy; 4]
-    ensures { λ r. ⌜ GlidedHeads frames (map headOf vs) r (now (curve .entry)) (now (curve .exit)) ⌝ }
+// Whether the voice has one copy, and it moves.
+pub fn moves_alone(v: Voice) -> bool
+    ensures { λ r. ⌜ MovesAs v r ⌝ }
 {
-    let heads = [head(vs[0]), head(vs[1]), head(vs[2]), head(vs[3])];
-    if !voices::fills(frames, 4, curve.len()) {
-        return heads;
+    if v.copy_count != 1 {
+        return false;
     }
-    glide_four(heads, frames, curve)
+    !steady(head(v))
+}
+
+// The first copies of eight voices.
+fn heads(four: [Voice; 4], three: [Voice; 3], last: Voice) -> [UnisonCopy; 8]
+    ensures { λ r. ⌜ r ≡ map headOf (eight four three last) ⌝ }
+{
+    [
+        head(four[0]),
+        head(four[1]),
+        head(four[2]),
+        head(four[3]),
+        head(three[0]),
+        head(three[1]),
+        head(three[2]),
+        head(last),
+    ]
+}
+
+// The first copies of eight voices `frames` samples later; they fill the curve, one after the other. A curve of another size is left
+// as it is. Whole voices are slow to move, so Plan puts the copies back by itself.
+pub fn glide_heads(
+    four: [Voice; 4],
+    three: [Voice; 3],
+    last: Voice,
+    frames: usize,
+    curve: &mut [f32],
+) -> [UnisonCopy; 8]
+    ensures { λ r. ⌜ GlidedHeads frames (map headOf (eight four three last)) r (now (curve .entry)) (now (curve .exit)) ⌝ }
+{
+    let copies = heads(four, three, last);
+    if !voices::fills(frames, 8, curve.len()) {
+        return copies;
+    }
+    glide_eight(copies, frames, curve)
 }

@@ -122,7 +122,7 @@ retabled s t ws c f e vs k = rw e
 
 pub aged-none : (s : Instrument) → Aged s (withFrames s 0) (replicate 64 0) 0 0
 unfolding blockedAs endedHandles
-aged-none s = record { others = refl; kept = 0; table = record { pass = pass-start seen _; report = refl; many = refl; few = omega arith; places = refl } }
+aged-none s = record { others = refl; kept = 0; table = record { pass = pass-start seen _; report = refl; many = refl; places = refl } }
 
 -- v is the voice that is read at i
 pub record Here (s : Instrument) (i : ℕ) (v : Voice) : Type 0 where

@@ -8,10 +8,10 @@ use native.Mathlib.Omega.{arith}
 use borrow.Author.Tests.{eqb-true}
 use lib.Ieee.{Float}
 use lib.ListN.{length, take, drop, set, getD, drop-of-length-le, length-map, take-append-drop}
-use lib.Seq.{take-all, take-add, drop-drop, set-getD, getD-set-other, sets}
+use lib.Seq.{take-all, take-add, drop-drop, set-getD, sets}
 use Rattle.lists.specs.All.{all, all-take, all-drop, all-map}
 use Rattle.lists.specs.Choose.{both}
-use Rattle.lists.specs.Parts.{part-length, part-size, part-front, part-take, reads, reads-eq, reads-all, flat-append, flat-map}
+use Rattle.lists.specs.Parts.{part-length, part-size, part-front, part-take, reads, reads-eq, reads-all, from, reads-places, setsAt, putBack, put-more, put-back, flat-append, flat-map}
 use Rattle.lists.specs.Pass.{Pass, pass-start, pass-keeps}
 use Rattle.lists.specs.Prefix.{map-part}
 use Rattle.stream.specs.declared.UnisonCopy.{UnisonCopy}
@@ -55,23 +55,20 @@ curves-seen : (frames : ℕ) (vs : List Voice) → flatMap (voiceCurve frames) v
 unfolding curves seen
 curves-seen frames vs = sym (flat-map _ (λ (x : Seen). x .voice) (map seen vs) ∙ flat-map _ seen vs)
 
-module _ {A : Type 0} (o : A) where
-  behind : (l : List A) (i j : ℕ) (x : A) → i < j → getD (set l i x) j o ≡ getD l j o
-  behind l i j x h = getD-set-other l i j x o (λ e. omega arith)
+-- the places of the seven voices behind one, as the code has them
+abbrev pub sevenFrom : ℕ → List ℕ
+sevenFrom i = i ∷ (i + 1) ∷ (i + 2) ∷ (i + 3) ∷ (i + 4) ∷ (i + 5) ∷ (i + 6) ∷ []
 
-  -- four elements, each put back changed before the next is read
-  four-puts : {B : Type 0} (f : A → B → A) (l : List A) (i : ℕ) (ds : List B) (n : B) → length ds ≡ 4 → (a b c d : A) → a ≡ f (getD l i o) (getD ds 0 n) → b ≡ f (getD (set l i a) (suc i) o) (getD ds 1 n)
-      → c ≡ f (getD (set (set l i a) (suc i) b) (suc (suc i)) o) (getD ds 2 n) → d ≡ f (getD (set (set (set l i a) (suc i) b) (suc (suc i)) c) (suc (suc (suc i))) o) (getD ds 3 n)
-      → a ∷ b ∷ c ∷ d ∷ [] ≡ zipWith f (reads l i 4 o) ds
-  unfolding zipWith
-  four-puts f l i ds n e a b c d ea eb ec ed =
-      let l1 = set l i a in
-      let l2 = set l1 (suc i) b in
-      let b1 : getD l1 (suc i) o ≡ getD l (suc i) o = behind l i _ a (omega arith) in
-      let c1 : getD l2 (suc (suc i)) o ≡ getD l (suc (suc i)) o = behind l1 (suc i) _ b (omega arith) ∙ behind l i _ a (omega arith) in
-      let d1 : getD (set l2 (suc (suc i)) c) (suc (suc (suc i))) o ≡ getD l (suc (suc (suc i))) o = behind l2 (suc (suc i)) _ c (omega arith) ∙ behind l1 (suc i) _ b (omega arith) ∙ behind l i _ a (omega arith) in
-      let read : a ∷ b ∷ c ∷ d ∷ [] ≡ zipWith f (reads l i 4 o) (reads ds 0 4 n) = rw (ea, rw b1 at eb, rw c1 at ec, rw d1 at ed) in
-      read ∙ ap (zipWith f (reads l i 4 o)) (reads-all ds 4 n e)
+seven-from : (i : ℕ) → sevenFrom (i + 1) ≡ from (suc i) 7
+seven-from i =
+    let e1 : i + 1 ≡ suc i = omega arith in
+    let e2 : i + 1 + 1 ≡ suc (suc i) = omega arith in
+    let e3 : i + 1 + 2 ≡ suc (suc (suc i)) = omega arith in
+    let e4 : i + 1 + 3 ≡ suc (suc (suc (suc i))) = omega arith in
+    let e5 : i + 1 + 4 ≡ suc (suc (suc (suc (suc i)))) = omega arith in
+    let e6 : i + 1 + 5 ≡ suc (suc (suc (suc (suc (suc i))))) = omega arith in
+    let e7 : i + 1 + 6 ≡ suc (suc (suc (suc (suc (suc (suc i)))))) = omega arith in
+    rw (e7, e6, e5, e4, e3, e2, e1)
 
 module _ (t : Instrument) (frames : ℕ) (old : List Float) where
   pub planning-start : frames * copiesIn (table (t .«voice_count») (t .voices)) ≡ length old → Planning t frames old t old 0 0
@@ -138,13 +135,21 @@ module _ (t : Instrument) (frames : ℕ) (old : List Float) where
       voice-fits : (k : ℕ) → k ≡ frames * rows → Fits frames v (take k (drop at xs))
       voice-fits k e = ap (_*_ frames) (sym r) ∙ sym (run-size p (v ∷ []) alone (omega arith) rows rows-alone k e)
 
-      pub voice-glides : (w : Voice) (u : Instrument) (ys zs : List Float) (k : ℕ) → k ≡ frames * rows → GlidedVoice frames v w (take k (drop at xs)) ys
+      voice-glides : (w : Voice) (u : Instrument) (ys zs : List Float) (k : ℕ) → k ≡ frames * rows → GlidedVoice frames v w (take k (drop at xs)) ys
           → zs ≡ take at xs ++ (ys ++ drop k (drop at xs)) → u ≡ blockedAs s (set (s .voices) (i + 1 - 1) w) (s .«voice_count») (s .frames) → Planning t frames old u zs (at + frames * rows) (i + 1)
       unfolding flatMap
       voice-glides w u ys zs k e o g q =
           let fit = voice-fits k e in
           let e0 : i + 1 - 1 ≡ i = omega arith in
           run-puts p (v ∷ []) alone (omega arith) rows rows-alone (w ∷ []) u ys zs k e (ap (λ (x : Seen). x ∷ []) (o .voice fit)) (o .numbers fit ∙ sym (append-nil _)) g (rw e0 at q)
+
+      -- the part was lent once before, and nothing was written
+      pub voice-moves : (w : Voice) (u : Instrument) (held mid ys zs : List Float) (k : ℕ) → k ≡ frames * rows → held ≡ take k (drop at xs) → mid ≡ take at xs ++ (held ++ drop k (drop at xs))
+          → GlidedVoice frames v w (take k (drop at mid)) ys → zs ≡ take at mid ++ (ys ++ drop k (drop at mid))
+          → u ≡ blockedAs s (set (s .voices) (i + 1 - 1) w) (s .«voice_count») (s .frames) → Planning t frames old u zs (at + frames * rows) (i + 1)
+      voice-moves w u held mid ys zs k e h m o g q =
+          let same : mid ≡ xs = m ∙ rw (h, take-append-drop, take-append-drop) in
+          voice-glides w u ys zs k e (rw same at o) (rw same at g) q
 
       -- a voice that stands need not be put back
       pub voice-stays : v ≡ getD (s .voices) i pastEnd → (ys zs : List Float) (k : ℕ) → k ≡ frames * rows → later frames (seen v) ≡ seen v → WrittenVoice frames v (take k (drop at xs)) ys
@@ -157,27 +162,24 @@ module _ (t : Instrument) (frames : ℕ) (old : List Float) where
           let same-table : set (s .voices) (i + 1 - 1) v ≡ s .voices = rw e0 (ap (set (s .voices) i) here ∙ set-getD _ _ _) in
           voice-glides v s ys zs k e glides g (ap (λ (l : List Voice). blockedAs s l (s .«voice_count») (s .frames)) (sym same-table))
 
-    -- four voices are left, each has as many copies, and the first has one; vs are the four as the code reads them
+    -- eight voices are left, each has as many copies, and the first has one; vs are the eight as the code reads them
     module _ {s : Instrument} {xs : List Float} {at i : ℕ} (p : Planning t frames old s xs at i) (k : ℕ) (even : all (copiesFit k) (table (t .«voice_count») (t .voices)) ≡ true)
-        (fours : i + 4 ≤ t .«voice_count») (one : length (shown (getD (s .voices) i pastEnd) .copies) ≡ 1) (vs : List Voice)
-        (read : vs ≡ getD (s .voices) i pastEnd ∷ getD (s .voices) (i + 1) pastEnd ∷ getD (s .voices) (i + 1 + 1) pastEnd ∷ getD (s .voices) (i + 1 + 2) pastEnd ∷ []) where
-      long : length vs ≡ 4
+        (eights : i + 8 ≤ t .«voice_count») (one : length (shown (getD (s .voices) i pastEnd) .copies) ≡ 1) (vs : List Voice)
+        (read : vs ≡ map (λ (j : ℕ). getD (s .voices) j pastEnd) (i ∷ sevenFrom (i + 1))) where
+      long : length vs ≡ 8
       long = rw read
 
-      places : (i + 1 ≡ suc i) × (i + 1 + 1 ≡ suc (suc i)) × (i + 1 + 2 ≡ suc (suc (suc i)))
-      places = (omega arith, omega arith, omega arith)
+      here : vs ≡ reads (s .voices) i 8 pastEnd
+      here = read ∙ ap (λ (js : List ℕ). map (λ (j : ℕ). getD (s .voices) j pastEnd) (i ∷ js)) (seven-from i) ∙ reads-places pastEnd (s .voices) i 8
 
-      here : vs ≡ reads (s .voices) i 4 pastEnd
-      here = rw (read, places .2, places .1, places .0)
-
-      four : vs ≡ take (length vs) (drop i (t .voices))
-      four = let size = p .pass .size in rw long (here ∙ reads-eq (s .voices) i 4 pastEnd (omega arith) ∙ ap (take 4) (p .pass .back))
+      group : vs ≡ take (length vs) (drop i (t .voices))
+      group = let size = p .pass .size in rw long (here ∙ reads-eq (s .voices) i 8 pastEnd (omega arith) ∙ ap (take 8) (p .pass .back))
 
       ones : all (λ (x : Seen). copiesFit 1 (x .voice)) (map seen vs) ≡ true
       unfolding seen
       ones =
           let n = long in
-          let part : all (copiesFit k) (voicesOf (map seen vs)) ≡ true = rw (← ahead p vs four (omega arith) _ refl) (all-take (copiesFit k) (length vs) _ (all-drop (copiesFit k) i _ even)) in
+          let part : all (copiesFit k) (voicesOf (map seen vs)) ≡ true = rw (← ahead p vs group (omega arith) _ refl) (all-take (copiesFit k) (length vs) _ (all-drop (copiesFit k) i _ even)) in
           let each : all (λ (x : Seen). copiesFit k (x .voice)) (map seen vs) ≡ true = sym (all-map (copiesFit k) (λ (x : Seen). x .voice) (map seen vs)) ∙ part in
           let k-one : k ≡ 1 = sym (eqb-true _ k (both _ _ (rw read at each) .0)) ∙ one in
           rw k-one at each
@@ -186,37 +188,52 @@ module _ (t : Instrument) (frames : ℕ) (old : List Float) where
       unfolding seen
       singles = sym (all-map (λ (x : Seen). copiesFit 1 (x .voice)) seen vs) ∙ ones
 
-      four-rows : copiesIn (voicesOf (map seen vs)) ≡ 4
-      four-rows =
+      group-rows : copiesIn (voicesOf (map seen vs)) ≡ 8
+      group-rows =
           let c = copies-even (λ (x : Seen). copiesFit 1 (x .voice)) 1 (λ x e. eqb-true _ _ e) (map seen vs) ones in
           let l = length-map vs seen in
           let n = long in
           omega arith
 
-      pub four-room : at + frames * 4 ≤ length xs
-      four-room = let n = long in run-room p vs four (omega arith) 4 four-rows
+      pub eight-room : at + frames * 8 ≤ length xs
+      eight-room = let n = long in run-room p vs group (omega arith) 8 group-rows
 
       -- each copy is put back into its voice
-      pub four-glide : (ds : List UnisonCopy) (a b c d : Voice) (u : Instrument) (ys zs : List Float) (q : ℕ) → q ≡ frames * 4 → GlidedHeads frames (map headOf vs) ds (take q (drop at xs)) ys
-          → zs ≡ take at xs ++ (ys ++ drop q (drop at xs)) → a ≡ withHead (getD (s .voices) (i + 1 - 1) pastEnd) (getD ds 0 noCopy)
+      pub eight-glide : (ds : List UnisonCopy) (a b c d e f g h : Voice) (u : Instrument) (ys zs : List Float) (q : ℕ) → q ≡ frames * 8 → GlidedHeads frames (map headOf vs) ds (take q (drop at xs)) ys
+          → zs ≡ take at xs ++ (ys ++ drop q (drop at xs))
+          → a ≡ withHead (getD (s .voices) (i + 1 - 1) pastEnd) (getD ds 0 noCopy)
           → b ≡ withHead (getD (set (s .voices) (i + 1 - 1) a) (i + 1) pastEnd) (getD ds 1 noCopy)
           → c ≡ withHead (getD (set (set (s .voices) (i + 1 - 1) a) (i + 1) b) (i + 1 + 1) pastEnd) (getD ds 2 noCopy)
           → d ≡ withHead (getD (set (set (set (s .voices) (i + 1 - 1) a) (i + 1) b) (i + 1 + 1) c) (i + 1 + 2) pastEnd) (getD ds 3 noCopy)
-          → u ≡ blockedAs s (set (set (set (set (s .voices) (i + 1 - 1) a) (i + 1) b) (i + 1 + 1) c) (i + 1 + 2) d) (s .«voice_count») (s .frames)
-          → Planning t frames old u zs (at + frames * 4) (i + 1 + 3)
-      four-glide ds a b c d u ys zs q e h g ea eb ec ed w =
+          → e ≡ withHead (getD (set (set (set (set (s .voices) (i + 1 - 1) a) (i + 1) b) (i + 1 + 1) c) (i + 1 + 2) d) (i + 1 + 3) pastEnd) (getD ds 4 noCopy)
+          → f ≡ withHead (getD (set (set (set (set (set (s .voices) (i + 1 - 1) a) (i + 1) b) (i + 1 + 1) c) (i + 1 + 2) d) (i + 1 + 3) e) (i + 1 + 4) pastEnd) (getD ds 5 noCopy)
+          → g ≡ withHead (getD (set (set (set (set (set (set (s .voices) (i + 1 - 1) a) (i + 1) b) (i + 1 + 1) c) (i + 1 + 2) d) (i + 1 + 3) e) (i + 1 + 4) f) (i + 1 + 5) pastEnd) (getD ds 6 noCopy)
+          → h ≡ withHead (getD (set (set (set (set (set (set (set (s .voices) (i + 1 - 1) a) (i + 1) b) (i + 1 + 1) c) (i + 1 + 2) d) (i + 1 + 3) e) (i + 1 + 4) f) (i + 1 + 5) g) (i + 1 + 6) pastEnd) (getD ds 7 noCopy)
+          → u ≡ blockedAs s (set (set (set (set (set (set (set (set (s .voices) (i + 1 - 1) a) (i + 1) b) (i + 1 + 1) c) (i + 1 + 2) d) (i + 1 + 3) e) (i + 1 + 4) f) (i + 1 + 5) g) (i + 1 + 6) h) (s .«voice_count») (s .frames) → Planning t frames old u zs (at + frames * 8) (i + 1 + 7)
+      eight-glide ds a b c d e f g h u ys zs q size m part ea eb ec ed ee ef eg eh w =
           let n = long in
           let within : i + length vs ≤ t .«voice_count» = omega arith in
-          let fit : frames * length (map headOf vs) ≡ length (take q (drop at xs)) = rw (length-map vs headOf, long) (sym (run-size p vs four within 4 four-rows q e)) in
-          let z : length ds ≡ 4 = ap length (h .glided fit .copies) ∙ rw (length-map, length-map) long in
+          let fit : frames * length (map headOf vs) ≡ length (take q (drop at xs)) = rw (length-map vs headOf, long) (sym (run-size p vs group within 8 group-rows q size)) in
+          let z : length ds ≡ 8 = ap length (m .glided fit .copies) ∙ rw (length-map, length-map) long in
           let e0 : i + 1 - 1 ≡ i = omega arith in
-          let e4 : i + length vs ≡ i + 1 + 3 = omega arith in
-          let ws = a ∷ b ∷ c ∷ d ∷ [] in
-          let put = four-puts pastEnd withHead (s .voices) i ds noCopy z a b c d (rw e0 at ea) (rw (e0, places .0) at eb) (rw (e0, places .1, places .0) at ec) (rw (e0, places .2, places .1, places .0) at ed) in
-          let new = heads-glide frames vs singles ds ys (h .glided fit) in
-          let glides : map seen ws ≡ map (later frames) (map seen vs) = ap (map seen) (put ∙ ap (λ (l : List Voice). zipWith withHead l ds) (sym here)) ∙ new .0 in
-          let stored : u ≡ blockedAs s (sets (s .voices) i ws) (s .«voice_count») (s .frames) = rw (w, e0, places .2, places .1, places .0) in
-          rw e4 at (run-puts p vs four within 4 four-rows ws u ys zs q e glides (new .1) g stored)
+          let e8 : i + length vs ≡ i + 1 + 7 = omega arith in
+          let ws = a ∷ b ∷ c ∷ d ∷ e ∷ f ∷ g ∷ h ∷ [] in
+          let spots : (i + 1 - 1) ∷ sevenFrom (i + 1) ≡ from i 8 = rw (e0, seven-from i) in
+          let l1 = set (s .voices) (i + 1 - 1) a in
+          let l2 = set l1 (i + 1) b in
+          let l3 = set l2 (i + 1 + 1) c in
+          let l4 = set l3 (i + 1 + 2) d in
+          let l5 = set l4 (i + 1 + 3) e in
+          let l6 = set l5 (i + 1 + 4) f in
+          let l7 = set l6 (i + 1 + 5) g in
+          let back : ws ≡ putBack pastEnd withHead (s .voices) ((i + 1 - 1) ∷ sevenFrom (i + 1)) (reads ds 0 8 noCopy) =
+          put-more pastEnd withHead (s .voices) (i + 1 - 1) ((i + 1) ∷ (i + 1 + 1) ∷ (i + 1 + 2) ∷ (i + 1 + 3) ∷ (i + 1 + 4) ∷ (i + 1 + 5) ∷ (i + 1 + 6) ∷ []) a (getD ds 0 noCopy) (reads ds 1 7 noCopy) (b ∷ c ∷ d ∷ e ∷ f ∷ g ∷ h ∷ []) ea (put-more pastEnd withHead l1 (i + 1) ((i + 1 + 1) ∷ (i + 1 + 2) ∷ (i + 1 + 3) ∷ (i + 1 + 4) ∷ (i + 1 + 5) ∷ (i + 1 + 6) ∷ []) b (getD ds 1 noCopy) (reads ds 2 6 noCopy) (c ∷ d ∷ e ∷ f ∷ g ∷ h ∷ []) eb (put-more pastEnd withHead l2 (i + 1 + 1) ((i + 1 + 2) ∷ (i + 1 + 3) ∷ (i + 1 + 4) ∷ (i + 1 + 5) ∷ (i + 1 + 6) ∷ []) c (getD ds 2 noCopy) (reads ds 3 5 noCopy) (d ∷ e ∷ f ∷ g ∷ h ∷ []) ec (put-more pastEnd withHead l3 (i + 1 + 2) ((i + 1 + 3) ∷ (i + 1 + 4) ∷ (i + 1 + 5) ∷ (i + 1 + 6) ∷ []) d (getD ds 3 noCopy) (reads ds 4 4 noCopy) (e ∷ f ∷ g ∷ h ∷ []) ed (put-more pastEnd withHead l4 (i + 1 + 3) ((i + 1 + 4) ∷ (i + 1 + 5) ∷ (i + 1 + 6) ∷ []) e (getD ds 4 noCopy) (reads ds 5 3 noCopy) (f ∷ g ∷ h ∷ []) ee (put-more pastEnd withHead l5 (i + 1 + 4) ((i + 1 + 5) ∷ (i + 1 + 6) ∷ []) f (getD ds 5 noCopy) (reads ds 6 2 noCopy) (g ∷ h ∷ []) ef (put-more pastEnd withHead l6 (i + 1 + 5) ((i + 1 + 6) ∷ []) g (getD ds 6 noCopy) (reads ds 7 1 noCopy) (h ∷ []) eg (put-more pastEnd withHead l7 (i + 1 + 6) ([]) h (getD ds 7 noCopy) (reads ds 8 0 noCopy) ([]) eh refl)))))))
+          in
+          let made : ws ≡ zipWith withHead vs ds = back ∙ ap (λ (js : List ℕ). putBack pastEnd withHead (s .voices) js (reads ds 0 8 noCopy)) spots ∙ put-back pastEnd withHead (s .voices) i 8 (reads ds 0 8 noCopy) ∙ rw (reads-all ds 8 noCopy z, here) in
+          let new = heads-glide frames vs singles ds ys (m .glided fit) in
+          let glides : map seen ws ≡ map (later frames) (map seen vs) = ap (map seen) made ∙ new .0 in
+          let stored : u ≡ blockedAs s (sets (s .voices) i ws) (s .«voice_count») (s .frames) = w ∙ ap (λ (js : List ℕ). blockedAs s (setsAt pastEnd (s .voices) js ws) (s .«voice_count») (s .frames)) spots in
+          rw e8 at (run-puts p vs group within 8 group-rows ws u ys zs q size glides (new .1) part stored)
 
     -- every voice has glided
     module _ {s : Instrument} {xs : List Float} {at i : ℕ} (p : Planning t frames old s xs at i) (end : t .«voice_count» ≤ i) where

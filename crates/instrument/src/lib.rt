@@ -8,11 +8,11 @@ ghost use Rattle.model.specs.Types.{Call};
 ghost use Rattle.model.specs.Formed.{framesFit, blockFits};
 ghost use Rattle.model.specs.Queries.{isActive, activeVoices};
 ghost use Rattle.design.specs.declared.PlayMode.the-variants.{Poly, Mono};
-ghost use Rattle.model.specs.Notes.{velocityOf, noteOffOf};
+ghost use Rattle.model.specs.Notes.{velocityOf};
 ghost use Rattle.formed.specs.Held.{heldFirst};
 ghost use Rattle.instrument.specs.declared.Instrument.{Instrument};
 ghost use Rattle.instrument.specs.View.{view, counted, formed as formedState};
-ghost use Rattle.instrument.specs.Calls.{emptyModel, withFrames, refusedAs, answeredAs, barredBy, fallBackOf, Reads, OffAs, lastHandle, stayOn, spawnOn, HeldOn, OnAs, CallAs, StartAs, Gives};
+ghost use Rattle.instrument.specs.Calls.{emptyModel, withFrames, refusedAs, answeredAs, barredBy, fallBackOf, Reads, OffAs, lastHandle, placedAs, stayOn, spawnOn, heldBy, HeldOn, OnAs, CallAs, StartAs};
 ghost use Rattle.instrument.specs.Asked.{answerOf, askedOf, VoiceAs};
 use design::DesignReply;
 use design::InstrumentDesign;
@@ -612,6 +612,19 @@ fn spawn_voice(stolen: Stolen, n: usize, next: u64, held: Held) -> NoteOn
     }
 }
 
+// The table is edited: the rest of what a note-on does.
+fn settled(mut state: Instrument, on: NoteOn) -> Outcome
+    ensures { λ r. ⌜ r ≡ answeredAs (on .reply) (placedAs state (state .voices) (on .count) (on .next) (state .sustain) (heldBy on)) ⌝ }
+{
+    let notes = on.notes;
+    state.held = notes;
+    state.held_count = on.held_count;
+    state.voice_count = on.count;
+    state.next_handle = on.next;
+    let reply = on.reply;
+    answered(reply, state)
+}
+
 impl Instrument {
     // What a note-on does: the Mono voice that sounds goes on, else a handle is due, with a voice where one was built.
     fn on_of(self, note: u8, velocity: f32, built: bool) -> NoteOn
@@ -680,12 +693,6 @@ impl Instrument {
             let v = new_voice(design, self.bend, self.brightness, next, note, level);
             self.voices[on.count - 1] = v;
         }
-        let notes = on.notes;
-        self.held = notes;
-        self.held_count = on.held_count;
-        self.voice_count = on.count;
-        self.next_handle = on.next;
-        let reply = on.reply;
-        answered(reply, self)
+        settled(self, on)
     }
 }

@@ -7,22 +7,25 @@ ghost use Prim.Native.Nat.{_*_, _≤_};
 ghost use lib.Dec.{leb, eqb};
 ghost use lib.Ieee.{Float};
 ghost use lib.ListN.{length};
+ghost use Rattle.voice.specs.View.{shown};
 ghost use Rattle.design.specs.Accepted.{modulated as isModulated};
 ghost use Rattle.envelope.specs.Start.{rateFits};
 ghost use Rattle.model.specs.Types.{Call};
 ghost use Rattle.model.specs.Plan.{vibratoFactor, filterFactor, tremoloGain, applied};
 ghost use Rattle.instrument.specs.View.{view, formed as formedState};
-ghost use Rattle.instrument.specs.Calls.{refusalOf, withFrames};
+ghost use Rattle.instrument.specs.Calls.{refusalOf, answeredAs, withFrames};
+ghost use Rattle.instrument.specs.declared.Reply.the-variants.{Planned};
 ghost use Rattle.instrument.specs.Plans.{PlannedAs, stepOf, phaseOn, wobbleOf, StandsFor};
 use crate::Instrument;
 use crate::Outcome;
 use crate::Reply;
-use crate::answered;
 use crate::frames_fit;
 use crate::refused;
+use curves::glide_heads;
 use design::InstrumentDesign;
 use design::Modulation;
 use voice::CopyChange;
+use voice::Voice;
 use voice::VoiceChange;
 
 // The host's factor, where the vibrato has a depth.
@@ -80,14 +83,25 @@ fn modulated(design: InstrumentDesign) -> bool
     m.is_active()
 }
 
-// Whether a voice that moves, with `left` after it, goes together with the next three: all have as many copies, here one.
-fn side_by_side(left: usize, copies: usize) -> bool
-    ensures { λ r. ⌜ r ≡ (leb 3 left && eqb copies 1) ⌝ }
+// Whether a voice with `left` after it goes together with the next seven: it has one copy, as they have, and moves.
+fn side_by_side(v: Voice, left: usize) -> bool
+    ensures { λ r. ⌜ (r ≡ true → (7 ≤ left) × (length (shown v .copies) ≡ 1)) ⌝ }
 {
-    if left < 3 {
+    if left < 7 {
         return false;
     }
-    copies == 1
+    curves::moves_alone(v)
+}
+
+// The block is open.
+fn planned(mut state: Instrument, frames: usize) -> Outcome
+    ensures { λ r. ⌜ r ≡ answeredAs Planned (withFrames state frames) ⌝ }
+{
+    state.frames = frames;
+    Outcome {
+        reply: Reply::Planned,
+        state,
+    }
 }
 
 impl Instrument {
@@ -149,31 +163,31 @@ impl Instrument {
         if modulated(self.design) {
             self = self.apply_modulation(frames, vib, flt, sin);
         }
-        let n = self.voice_count;
         let mut at: usize = 0;
         let mut i: usize = 0;
-        while i < n {
+        while i < self.voice_count {
             let v = self.voices[i];
-            let copies = v.copies_shown();
-            let mut end = at + frames * copies;
+            let mut end = at + frames * v.copies_shown();
             i += 1;
-            if curves::stands(v) {
-                curves::write_voice(v, frames, &mut curve[at..end]);
-            } else if side_by_side(n - i, copies) {
-                end = at + frames * 4;
-                let four = [v, self.voices[i], self.voices[i + 1], self.voices[i + 2]];
-                let glided = curves::glide_heads(four, frames, &mut curve[at..end]);
-                self.voices[i - 1] = curves::with_head(self.voices[i - 1], glided[0]);
-                self.voices[i] = curves::with_head(self.voices[i], glided[1]);
-                self.voices[i + 1] = curves::with_head(self.voices[i + 1], glided[2]);
-                self.voices[i + 2] = curves::with_head(self.voices[i + 2], glided[3]);
-                i += 3;
-            } else {
+            if side_by_side(v, self.voice_count - i) {
+                end = at + frames * 8;
+                let low = [v, self.voices[i], self.voices[i + 1], self.voices[i + 2]];
+                let high = [self.voices[i + 3], self.voices[i + 4], self.voices[i + 5]];
+                let next = glide_heads(low, high, self.voices[i + 6], frames, &mut curve[at..end]);
+                self.voices[i - 1] = curves::with_head(self.voices[i - 1], next[0]);
+                self.voices[i] = curves::with_head(self.voices[i], next[1]);
+                self.voices[i + 1] = curves::with_head(self.voices[i + 1], next[2]);
+                self.voices[i + 2] = curves::with_head(self.voices[i + 2], next[3]);
+                self.voices[i + 3] = curves::with_head(self.voices[i + 3], next[4]);
+                self.voices[i + 4] = curves::with_head(self.voices[i + 4], next[5]);
+                self.voices[i + 5] = curves::with_head(self.voices[i + 5], next[6]);
+                self.voices[i + 6] = curves::with_head(self.voices[i + 6], next[7]);
+                i += 7;
+            } else if !curves::hold_voice(v, frames, &mut curve[at..end]) {
                 self.voices[i - 1] = curves::glide_voice(v, frames, &mut curve[at..end]);
             }
             at = end;
         }
-        self.frames = frames;
-        answered(Reply::Planned, self)
+        planned(self, frames)
     }
 }

@@ -1,12 +1,12 @@
 -- A list written part by part: what a part that was lent and came back makes of the whole, parts of a part, one list parted in two ways,
--- and lists that are joined of one list for each element.
+-- elements read and stored one by one, and lists that are joined of one list for each element.
 use mathlib.Core.Path.{_≡_, refl, ap, sym, _∙_}
-use mathlib.Core.List.{List, [], _∷_, _++_, map, flatMap, append-assoc, append-nil}
+use mathlib.Core.List.{List, [], _∷_, _++_, map, flatMap, zipWith, append-assoc, append-nil}
 use Prim.Native.Nat.{ℕ, zero, suc, _+_, _-_, _*_, _≤_, _<_}
 use native.Mathlib.Nat.{mul-suc}
 use native.Mathlib.Omega.{arith}
 use lib.ListN.{length, take, drop, getD, set, replicate, length-append, length-take, length-drop, length-set}
-use lib.Seq.{take-all, take-at, take-take, drop-append-seam, drop-drop, drop-cons, drop-set-lt, drop-set-add, take-set-le, getD-set-same}
+use lib.Seq.{take-all, take-at, take-take, drop-append-seam, drop-drop, drop-cons, drop-set-lt, drop-set-add, take-set-le, getD-set-same, getD-set-other}
 use Rattle.lists.specs.Prefix.{take-more}
 
 module _ {A : Type 0} where
@@ -127,6 +127,45 @@ module _ {A : Type 0} where
   -- an array is what is read at its places
   pub reads-all : (l : List A) (m : ℕ) (d : A) → length l ≡ m → reads l 0 m d ≡ l
   reads-all l m d e = reads-eq l 0 m d (omega arith) ∙ take-all m l (omega arith)
+
+-- the places from i on
+abbrev pub from : ℕ → ℕ → List ℕ
+from i zero = []
+from i (suc m) = i ∷ from (suc i) m
+
+module _ {A : Type 0} (o : A) where
+  reads-behind : (l : List A) (i j m : ℕ) (x : A) → i < j → reads (set l i x) j m o ≡ reads l j m o
+  reads-behind l i j zero x h = refl
+  reads-behind l i j (suc m) x h = rw (getD-set-other l i j x o (λ e. omega arith), reads-behind l i (suc j) m x (omega arith))
+
+  pub reads-places : (l : List A) (i m : ℕ) → map (λ (j : ℕ). getD l j o) (from i m) ≡ reads l i m o
+  reads-places l i zero = refl
+  reads-places l i (suc m) = ap (_∷_ (getD l i o)) (reads-places l (suc i) m)
+
+  -- elements stored one by one at given places, as code writes them out
+  abbrev pub setsAt : List A → List ℕ → List A → List A
+  setsAt l (j ∷ js) (w ∷ ws) = setsAt (set l j w) js ws
+  setsAt l (j ∷ js) [] = l
+  setsAt l [] ws = l
+
+  module _ {B : Type 0} (f : A → B → A) where
+    -- each element is made of what then stands in its place, and stored there before the next is read
+    abbrev pub putBack : List A → List ℕ → List B → List A
+    putBack l (j ∷ js) (d ∷ ds) = f (getD l j o) d ∷ putBack (set l j (f (getD l j o) d)) js ds
+    putBack l (j ∷ js) [] = []
+    putBack l [] ds = []
+
+    pub put-more : (l : List A) (j : ℕ) (js : List ℕ) (a : A) (d : B) (ds : List B) (ws : List A) → a ≡ f (getD l j o) d → ws ≡ putBack (set l j a) js ds → a ∷ ws ≡ putBack l (j ∷ js) (d ∷ ds)
+    put-more l j js a d ds ws e h = rw (← e) (ap (_∷_ a) h)
+
+    -- at neighbouring places no element that is read was stored before
+    pub put-back : (l : List A) (i m : ℕ) (ds : List B) → putBack l (from i m) ds ≡ zipWith f (reads l i m o) ds
+    unfolding zipWith
+    put-back l i zero ds = refl
+    put-back l i (suc m) [] = refl
+    put-back l i (suc m) (d ∷ ds) =
+        let a = f (getD l i o) d in
+        ap (_∷_ a) (put-back (set l i a) (suc i) m ds ∙ ap (λ (xs : List A). zipWith f xs ds) (reads-behind l i (suc i) m a (omega arith)))
 
 module _ {A B : Type 0} (f : A → List B) where
   pub flat-append : (xs ys : List A) → flatMap f (xs ++ ys) ≡ flatMap f xs ++ flatMap f ys

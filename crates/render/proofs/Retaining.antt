@@ -41,7 +41,6 @@ pub record Retaining (l : List Seen) (w k i : ℕ) (ws : List Voice) (ended : Li
   pub pass : Pass seen (kept goesOn l) w i ws vs
   pub report : ended ≡ padded (endedHandles (voicesOf l))
   pub many : k ≡ length (endedHandles (voicesOf l))
-  pub few : k ≤ i
   pub places : w + k ≡ i
 
 -- v is the next voice, aged, and stored where it stood; a voice that goes on moves up where some before it have ended
@@ -65,7 +64,6 @@ module _ {l : List Seen} {w k i : ℕ} {ws : List Voice} {ended : List ℕ} {vs 
           pass = rw (kept-append goesOn l (seen v ∷ []), e) p;
           report = rw same (d .report);
           many = rw same (d .many);
-          few = omega arith;
           places = let z = d .places in omega arith;
         }
 
@@ -91,7 +89,6 @@ module _ {l : List Seen} {w k i : ℕ} {ws : List Voice} {ended : List ℕ} {vs 
         pass = rw (kept-append goesOn l (seen v ∷ []), e, append-nil) (pass-spend v (d .pass));
         report = rw (d .report, d .many, more) (pad-more (endedHandles (voicesOf l)) (v .handle) (omega arith));
         many = rw more (simp length-append (omega arith));
-        few = omega arith;
         places = let z = d .places in omega arith;
       }
     where

@@ -169,7 +169,7 @@ loop-again c =
     (λ y. rw (y .3, y .4, y .5) (aged-up h (i .4) env w (g .goes-on .ensures) (not-false _ (y .0 .left)) (y .1 .taken)))
     (λ y. rw (y .2, y .3, y .4) (aged-here h (i .4) env w (g .goes-on .ensures) (not-false _ (y .0 .left)) (y .1 .left))))
     (c .if2 .came) in
-    (next .table .few, omega arith, few (b .before), summed-more h r (i .3) fits e (omega (arith, a .add-voice .kept)) (omega (arith, a .add-voice .kept)), next)
+    (let z = next .table .places in omega (arith, z), omega arith, few (b .before), summed-more h r (i .3) fits e (omega (arith, a .add-voice .kept)) (omega (arith, a .add-voice .kept)), next)
 
 slice-aggregate-put : tie.Need-slice-aggregate-put Inv-loop μ-loop
 slice-aggregate-put c = search needs

@@ -108,8 +108,8 @@ element-copy-out-changed c = let n = few (c .before .before) in omega arith
 changed-requires : tie.Need-changed-requires Inv-loop μ-loop
 changed-requires c κs = search needs
 
-mul-t30 : tie.Need-mul-t30 Inv-loop μ-loop
-mul-t30 c = let n = few (c .before .before .before .before) in omega arith
+mul-t28 : tie.Need-mul-t28 Inv-loop μ-loop
+mul-t28 c = let n = few (c .before .before .before .before) in omega arith
 
 element-set-from-self : tie.Need-element-set-from-self Inv-loop μ-loop
 element-set-from-self c = let n = few (c .before .before .before .before) in omega arith
@@ -138,11 +138,11 @@ mul-self c = let b = c .before in let h = b .loop .inv .1 in let e = b .loop .in
 element-copy-out-self : tie.Need-element-copy-out-self Inv-loop μ-loop
 element-copy-out-self c = let b = c .before in let h = b .loop .inv .1 in let e = b .loop .inv .0 in omega (arith, h, e)
 
-sub-t38 : tie.Need-sub-t38 Inv-loop μ-loop
-sub-t38 c = let b = c .before .before in let h = b .loop .inv .4 .behind in omega (arith, h)
+sub-t36 : tie.Need-sub-t36 Inv-loop μ-loop
+sub-t36 c = let b = c .before .before in let h = b .loop .inv .4 .behind in omega (arith, h)
 
-mul-t39 : tie.Need-mul-t39 Inv-loop μ-loop
-mul-t39 c = let b = c .before .before in let h = b .loop .inv .1 in let e = b .loop .inv .0 in omega (arith, h, e)
+mul-t37 : tie.Need-mul-t37 Inv-loop μ-loop
+mul-t37 c = let b = c .before .before in let h = b .loop .inv .1 in let e = b .loop .inv .0 in omega (arith, h, e)
 
 element-set-from-self-2 : tie.Need-element-set-from-self-2 Inv-loop μ-loop
 element-set-from-self-2 c = let b = c .before .before in let h = b .loop .inv .1 in let e = b .loop .inv .0 in omega (arith, h, e)
@@ -187,13 +187,13 @@ element-set-from-v c =
     let n = grows (c .before .before .before) in
     omega (arith, r, n)
 
-answered-requires : tie.Need-answered-requires Inv-loop μ-loop
-answered-requires c κs = search needs
+settled-requires : tie.Need-settled-requires Inv-loop μ-loop
+settled-requires c κs = search needs
 
 returns-4 : tie.Need-returns-4 Inv-loop μ-loop
 unfolding placedAs blockedAs view
 returns-4 c =
-    let q = c .before .before in
+    let q = c .before in
     let b = q .before .before in
     let j = b .before .before in
     let o = j .before .before in
@@ -214,16 +214,16 @@ returns-4 c =
     let all : t ≡ tabledAs x (t .voices) = w .3 ∙ ap (λ (y : Instrument). tabledAs y (t .voices)) (u .rest) in
     let room : x .«voice_count» ≤ length (x .voices) = omega arith in
     let size : length (t .voices) ≡ 64 = w .4 .pass .size ∙ w .2 in
-    of-shut _ (fine e) _ (c .answered .result)
-    (on-done x f (s .args .note) (s .args .velocity) (s .args .built) (c .answered .result) (off-is _ _ _ (v .velocity-of .ensures) (z .if1 .left)) _ (v .velocity-of .ensures) on a (j .before .if3 .left)
+    of-shut _ (fine e) _ (c .settled .result)
+    (on-done x f (s .args .note) (s .args .velocity) (s .args .built) (c .settled .result) (off-is _ _ _ (v .velocity-of .ensures) (z .if1 .left)) _ (v .velocity-of .ensures) on a (j .before .if3 .left)
     (⊎-elim
     (λ y.
     let ws = set (t .voices) (on .count - 1) (y .2 .result) in
     let new = y .2 .ensures (view x) (subst (λ (d : InstrumentDesign). isAccepted d ≡ true) (sym (ap (λ (y : Instrument). y .design) all)) (parts-of x lv (held-long (s .args .t1) (s .good .0)) (f .formed) .design)) (sym (ap (λ (y : Instrument). y .design) all)) (sym (ap (λ (y : Instrument). y .bend) all)) (sym (ap (λ (y : Instrument). y .brightness) all)) (sym (ap (λ (y : Instrument). y .«next_handle») all)) in
-    rw (c .answered .ensures ∙ ap (answeredAs (on .reply)) (carried x (j .if4 .self) t (q .if5 .self) (t .voices) ws (j .if4 .self .voices) on (u .rest) (w .3) (y .4)))
+    rw (c .settled .ensures ∙ ap (answeredAs (on .reply)) (carried x (j .if4 .self) t (q .if5 .self) (t .voices) ws (j .if4 .self .voices) on (u .rest) (w .3) (y .4)))
     (a .more (j .before .if3 .left) (y .0 .taken) (y .2 .result) ws (new ∙ ap (λ (d : InstrumentDesign). record { voice = newVoice (view x) (s .args .note) (v .velocity-of .result); count = copiesOf d }) (ap (λ (y : Instrument). y .design) all)) (edited-more x on (j .if4 .self) u room t (b .loop .i) (w .4) end (y .2 .result) size (a .room) (a .size) (y .0 .taken))))
     (λ y.
-    rw (c .answered .ensures ∙ ap (answeredAs (on .reply)) (carried x (j .if4 .self) t (q .if5 .self) (t .voices) (t .voices) (j .if4 .self .voices) on (u .rest) (w .3) (y .1)))
+    rw (c .settled .ensures ∙ ap (answeredAs (on .reply)) (carried x (j .if4 .self) t (q .if5 .self) (t .voices) (t .voices) (j .if4 .self .voices) on (u .rest) (w .3) (y .1)))
     (a .same (j .before .if3 .left) (y .0 .left) (t .voices) (edited-same x on (j .if4 .self) u room t (b .loop .i) (w .4) end (a .size) (y .0 .left))))
     (q .if5 .came)))
 
@@ -246,14 +246,14 @@ note-on-spec =
     mul-changed
     element-copy-out-changed
     changed-requires
-    mul-t30
+    mul-t28
     element-set-from-self
     add-i
     loop-holds
     mul-self
     element-copy-out-self
-    sub-t38
-    mul-t39
+    sub-t36
+    mul-t37
     element-set-from-self-2
     add-i-2
     loop-less
@@ -262,5 +262,5 @@ note-on-spec =
     sub-v
     mul-v
     element-set-from-v
-    answered-requires
+    settled-requires
     returns-4)
