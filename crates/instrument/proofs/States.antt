@@ -1,6 +1,5 @@
 -- States that differ from one in a few fields, as the ways out of the calls name them.
 use mathlib.Core.List.{List}
-use Prim.Native.Nat.{ℕ}
 use lib.Ieee.{Float}
 use Rattle.voice.specs.declared.Voice.{Voice}
 use Rattle.instrument.specs.Calls.{placedAs, holdingOf}

@@ -50,7 +50,7 @@ impl Instrument {
     }
 
     // Sums the samples of every copy into both sides, drops the voices that have ended and closes the block.
-    // The table is changed where it stands: a voice that goes on moves up as soon as it has been summed.
+    // The table is changed where it stands: a voice that goes on moves up only where some before it have ended.
     pub fn mix(mut self, samples: &[f32], out: &mut [f32]) -> MixOutcome
         ensures { λ r. ⌜ MixAs self (now (samples .entry)) (now (out .entry)) (now (out .exit)) r ⌝ }
     {

@@ -1,10 +1,9 @@
 // Plan (the Rust's `apply_modulation`, and `glide_block` of every copy): the pitch curve of the next block.
 
 ghost use mathlib.Core.Path.{_≡_};
-ghost use mathlib.Core.Bool.{true, _&&_};
+ghost use mathlib.Core.Bool.{true};
 ghost use mathlib.Core.List.{List};
 ghost use Prim.Native.Nat.{_*_, _≤_};
-ghost use lib.Dec.{leb, eqb};
 ghost use lib.Ieee.{Float};
 ghost use lib.ListN.{length};
 ghost use Rattle.voice.specs.View.{shown};
