@@ -21,42 +21,52 @@ use Rattle.envelope.proofs.Stage as StageT
 use denote.Enum.Declared.{tagOf}
 use types.Run.{OneOf}
 use Rattle.voice.specs.declared.Voice.{Voice}
-use Rattle.formed.specs.Check.{stageAgrees, voiceFits}
+use Rattle.formed.specs.declared.Head.{Head}
+use Rattle.formed.specs.Check.{HeadFor, stageAgrees, voiceFits}
 
 -- the ways out of `voice_fits`
-module _ (v : Voice) (next copies : ℕ) (size : length (v .copies) ≡ 8) where
-  pub fits-1 : 8 < v .«copy_count» → false ≡ voiceFits next copies (seen v)
-  unfolding voiceFits seen
-  fits-1 h = and-fails _ _ (lt-leb (v .«copy_count») 8 h)
+module _ (h : Head) (next copies : ℕ) (v : Voice) (x : HeadFor v h) where
+  copies-few : h .copies ≤ 8 → v .«copy_count» ≤ 8
+  copies-few a = let e = x .copies in omega arith
 
-  module _ (a : v .«copy_count» ≤ 8) where
+  pub fits-1 : 8 < h .copies → false ≡ voiceFits next copies (seen v)
+  unfolding voiceFits seen
+  fits-1 q = and-fails _ _ (lt-leb (v .«copy_count») 8 (let e = x .copies in omega arith))
+
+  module _ (a : h .copies ≤ 8) where
     copies-shown : length (shown v .copies) ≡ v .«copy_count»
     unfolding shown
-    copies-shown = length-take-le (v .«copy_count») (v .copies) (omega arith)
+    copies-shown = let s = x .size in let f = copies-few a in length-take-le (v .«copy_count») (v .copies) (omega arith)
 
     room : leb (v .«copy_count») 8 ≡ true
-    room = le-leb (v .«copy_count») 8 a
+    room = le-leb (v .«copy_count») 8 (copies-few a)
 
-    pub fits-2 : v .handle < 1 → false ≡ voiceFits next copies (seen v)
+    pub fits-2 : h .handle < 1 → false ≡ voiceFits next copies (seen v)
     unfolding voiceFits seen shown
-    fits-2 h = and-then _ _ _ room (and-fails _ _ (sym (and-fails _ _ (lt-leb 1 (v .handle) h))))
+    fits-2 q = and-then _ _ _ room (and-fails _ _ (sym (and-fails _ _ (lt-leb 1 (v .handle) (let e = x .handle in omega arith)))))
 
-    module _ (b : 1 ≤ v .handle) where
-      pub fits-3 : next ≤ v .handle → false ≡ voiceFits next copies (seen v)
+    module _ (b : 1 ≤ h .handle) where
+      first : leb 1 (v .handle) ≡ true
+      first = le-leb 1 (v .handle) (let e = x .handle in omega arith)
+
+      pub fits-3 : next ≤ h .handle → false ≡ voiceFits next copies (seen v)
       unfolding voiceFits seen shown
-      fits-3 h = and-then _ _ _ room (and-fails _ _ (sym (and-then _ _ _ (le-leb 1 (v .handle) b) (sym (le-ltb (v .handle) next h)))))
+      fits-3 q = and-then _ _ _ room (and-fails _ _ (sym (and-then _ _ _ first (sym (le-ltb (v .handle) next (let e = x .handle in omega arith))))))
 
-      module _ (c : v .handle < next) where
+      module _ (c : h .handle < next) where
         named : (leb 1 (v .handle) && ltb (v .handle) next) ≡ true
-        named = sym (and-then _ _ _ (le-leb 1 (v .handle) b) (sym (lt-ltb (v .handle) next c)))
+        named = sym (and-then _ _ _ first (sym (lt-ltb (v .handle) next (let e = x .handle in omega arith))))
 
-        pub fits-4 : (v .«copy_count» ≡ copies → ⊥) → false ≡ voiceFits next copies (seen v)
+        pub fits-4 : (h .copies ≡ copies → ⊥) → false ≡ voiceFits next copies (seen v)
         unfolding voiceFits seen shown
-        fits-4 h = and-then _ _ _ room (and-then _ _ _ named (and-fails _ _ (ne-eqb _ copies (λ e. h (sym copies-shown ∙ e)))))
+        fits-4 q = and-then _ _ _ room (and-then _ _ _ named (and-fails _ _ (ne-eqb _ copies (λ e. q (x .copies ∙ sym copies-shown ∙ e)))))
 
-        pub fits-5 : (x : Bool) → v .«copy_count» ≡ copies → x ≡ stageAgrees (v .env .stage) (v .releasing) → x ≡ voiceFits next copies (seen v)
+        pub fits-5 : (y : Bool) → h .copies ≡ copies → y ≡ stageAgrees (h .stage) (h .releasing) → y ≡ voiceFits next copies (seen v)
         unfolding voiceFits seen shown stageAgrees
-        fits-5 x h e = and-then _ _ _ room (and-then _ _ _ named (and-then _ _ _ (eq-eqb _ copies (copies-shown ∙ h)) e))
+        fits-5 y q e =
+            and-then _ _ _ room
+            (and-then _ _ _ named
+            (and-then _ _ _ (eq-eqb _ copies (copies-shown ∙ sym (x .copies) ∙ q)) (e ∙ ap (λ (s : Stage). stageAgrees s (h .releasing)) (x .stage) ∙ ap (stageAgrees (v .env .stage)) (x .releasing))))
 
 -- the handles of the first n voices
 abbrev pub handlesFirst : ℕ → List Voice → List ℕ
@@ -76,11 +86,11 @@ module _ (vs : List Voice) (n : ℕ) (h : n ≤ length vs) where
       ∙ ap (λ (v : Voice). v .handle) (getD-take n vs i d k)
 
 -- a pass to the smaller of the count and the array's length sees what a pass to the count would
-pub seen-least : (n : ℕ) (vs : List Voice) → length vs ≡ 64 → (e : ℕ) → e ≡ min n 64 → seenFirst e vs ≡ seenFirst n vs
-seen-least n vs l e q = ap (map seen) (ap (λ (k : ℕ). take k vs) q ∙ take-min n 64 vs l)
+pub seen-least : (m n : ℕ) (vs : List Voice) → length vs ≡ m → (e : ℕ) → e ≡ min n m → seenFirst e vs ≡ seenFirst n vs
+seen-least m n vs l e q = ap (map seen) (ap (λ (k : ℕ). take k vs) q ∙ take-min n m vs l)
 
 pub handles-least : (n : ℕ) (vs : List Voice) → length vs ≡ 64 → (e : ℕ) → e ≡ min n 64 → handlesFirst e vs ≡ handlesFirst n vs
-handles-least n vs l e q = ap (λ (x : List Seen). handles (voicesOf x)) (seen-least n vs l e q)
+handles-least n vs l e q = ap (λ (x : List Seen). handles (voicesOf x)) (seen-least 64 n vs l e q)
 
 -- the stages one by one
 pub agrees : (st : Stage) (x b : Bool) → x ≡ stageAgrees st b → (t : Stage) → t ≡ st → x ≡ stageAgrees t b

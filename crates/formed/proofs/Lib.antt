@@ -5,3 +5,4 @@ pub mod Holding
 pub mod Handles
 pub mod Looking
 pub mod Tables
+pub mod Surveying

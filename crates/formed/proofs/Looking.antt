@@ -1,22 +1,24 @@
 -- What the one pass over the voices finds: the count, the tests of all and the rise of the handles.
 use mathlib.Core.Path.{_≡_, refl, ap, sym, _∙_}
 use mathlib.Core.Bool.{Bool, true, false, not, _&&_}
-use mathlib.Core.List.{List, [], _∷_}
+use mathlib.Core.List.{List, [], _∷_, map}
 use Prim.Native.Nat.{ℕ, _+_, _≤_, _<_, min}
 use native.Mathlib.Omega.{arith}
 use lib.Dec.{ltb}
 use lib.ListN.{length, take, getD}
-use lib.Seq.{take-all}
+use lib.Seq.{take-all, take-take}
 use Rattle.lists.specs.All.{all}
 use Rattle.lists.specs.Count.{oneIf, oneIf-le, count}
+use Rattle.lists.specs.Parts.{reads, reads-eq}
 use Rattle.lists.specs.Perms.{distinct}
 use Rattle.lists.specs.Prefix.{fold, fold-more, shown-any, shown-length}
 use Rattle.model.specs.Voices.{sounding, handles}
 use Rattle.voice.specs.View.{Seen, seen, shown}
 use Rattle.voice.specs.declared.Voice.{Voice}
 use Rattle.voices.specs.View.{seenFirst, voicesOf}
+use Rattle.formed.specs.declared.Head.{Head}
 use Rattle.formed.specs.declared.Looked.{Looked}
-use Rattle.formed.specs.Check.{voiceFits, risesFrom, lookStart, lookNext}
+use Rattle.formed.specs.Check.{HeadFor, voiceFits, risesFrom, lookStart, lookNext}
 use Rattle.formed.proofs.Checks.{noSeen, seen-least}
 use Rattle.formed.proofs.Handles.{rise-distinct}
 
@@ -64,11 +66,11 @@ module _ (next copies : ℕ) where
     looked-once h = sym (rise-distinct _ 0 (sym looked-rise ∙ h))
 
   -- one voice more, as the code computes it
-  pub look-one : (l : Looked) (v : Voice) (k : ℕ) (f a b : Bool) → k ≡ oneIf (not (v .releasing)) → f ≡ voiceFits next copies (seen v)
-      → a ≡ (l .fit && f) → b ≡ (l .rise && ltb (l .low) (v .handle))
-      → _≡_ {A = Looked} (record { sounding = l .sounding + k; fit = a; rise = b; low = v .handle }) (lookNext next copies l (seen v))
+  pub look-one : (l : Looked) (h : Head) (v : Voice) → HeadFor v h → (k : ℕ) (f a b : Bool) → k ≡ oneIf (not (h .releasing)) → f ≡ voiceFits next copies (seen v)
+      → a ≡ (l .fit && f) → b ≡ (l .rise && ltb (l .low) (h .handle))
+      → _≡_ {A = Looked} (record { sounding = l .sounding + k; fit = a; rise = b; low = h .handle }) (lookNext next copies l (seen v))
   unfolding lookNext seen shown
-  look-one l v k f a b ek ef ea eb = rw (ek, eb, ea, ef) refl
+  look-one l h v x k f a b ek ef ea eb = rw (ek, eb, ea, ef, x .handle, x .releasing) refl
 
   -- i voices are looked at, in a table that is read up to `end`
   pub record Looking (vs : List Voice) (end : ℕ) (l : Looked) (i : ℕ) : Type 0 where
@@ -94,7 +96,11 @@ module _ (next copies : ℕ) where
           few = omega arith;
         }
 
-    pub looking-end : (l : Looked) (n i : ℕ) → length vs ≡ 64 → end ≡ min n 64 → end ≤ i → Looking vs end l i → l ≡ fold (lookNext next copies) lookStart (seenFirst n vs)
-    looking-end l n i size e h a =
+    pub looking-end : (l : Looked) (m n i : ℕ) → length vs ≡ m → end ≡ min n m → end ≤ i → Looking vs end l i → l ≡ fold (lookNext next copies) lookStart (seenFirst n vs)
+    looking-end l m n i size e h a =
         let long = shown-length seen end vs (omega arith) in
-        a .found ∙ ap (fold (lookNext next copies) lookStart) (take-all i (seenFirst end vs) (omega arith) ∙ seen-least n vs size end e)
+        a .found ∙ ap (fold (lookNext next copies) lookStart) (take-all i (seenFirst end vs) (omega arith) ∙ seen-least m n vs size end e)
+
+-- eight voices of a table, read one by one, show as many of its first voices as there are
+pub looking-few : (vs : List Voice) (n : ℕ) (d : Voice) → 8 ≤ length vs → n ≤ 8 → seenFirst n (reads vs 0 8 d) ≡ seenFirst n vs
+looking-few vs n d l h = ap (λ (xs : List Voice). seenFirst n xs) (reads-eq vs 0 8 d l) ∙ ap (map seen) (take-take n 8 vs h)

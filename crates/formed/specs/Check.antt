@@ -1,8 +1,10 @@
 -- The parts of check 1 as the code computes them.
+use mathlib.Core.Path.{_≡_}
 use mathlib.Core.Bool.{Bool, true, not, _&&_, Bool·beq}
 use mathlib.Core.List.{List, [], _∷_}
 use Prim.Native.Nat.{ℕ, _+_}
 use lib.Dec.{leb, ltb, eqb}
+use lib.ListN.{length}
 use Rattle.envelope.specs.declared.Stage.{Stage}
 use Rattle.envelope.specs.Gates.{isIdle, isRelease}
 use Rattle.design.specs.declared.PlayMode.{PlayMode}
@@ -18,8 +20,18 @@ use Rattle.model.specs.Voices.{sounding, handles}
 use Rattle.note.specs.declared.Note.{Note}
 use Rattle.design.specs.declared.InstrumentDesign.{InstrumentDesign}
 use Rattle.voice.specs.declared.Voice.{Voice}
+use Rattle.formed.specs.declared.Head.{Head}
 use Rattle.formed.specs.declared.Looked.{Looked}
 use Rattle.formed.specs.Held.{heldFirst}
+
+-- what check 1 and a steal read of a voice, whose copies are an array of eight
+pub record HeadFor (v : Voice) (h : Head) : Type 0 where
+  pub handle : h .handle ≡ v .handle
+  pub copies : h .copies ≡ v .«copy_count»
+  pub stage : h .stage ≡ v .env .stage
+  pub releasing : h .releasing ≡ v .releasing
+  pub level : h .level ≡ v .env .level
+  pub size : length (v .copies) ≡ 8
 
 -- what is asked of one voice: its count, its handle, its copies and its stage
 unfoldable pub voiceFits : ℕ → ℕ → Seen → Bool

@@ -2,16 +2,19 @@
 
 ghost use mathlib.Core.Path.{_≡_};
 ghost use mathlib.Core.Bool.{false, _&&_};
-ghost use Prim.Native.Nat.{_<_};
+ghost use Prim.Native.Nat.{ℕ, _<_};
+ghost use mathlib.Core.List.{List};
 ghost use lib.ListN.{replicate};
 ghost use Rattle.lists.specs.Count.{oneIf};
 ghost use Rattle.lists.specs.Perms.{distinct};
 ghost use Rattle.lists.specs.Prefix.{fold};
+ghost use Rattle.design.specs.Accepted.{copiesOf};
 ghost use Rattle.model.specs.Voices.{handles};
+ghost use Rattle.voice.specs.declared.Voice.{Voice};
 ghost use Rattle.voice.specs.View.{seen};
 ghost use Rattle.voices.specs.View.{seenFirst, voicesOf};
 ghost use Rattle.formed.specs.Held.{heldFirst, WithoutNote, WithNote};
-ghost use Rattle.formed.specs.Check.{stageAgrees, voiceFits, lookStart, lookNext, modeAgrees, tablesFit};
+ghost use Rattle.formed.specs.Check.{HeadFor, stageAgrees, voiceFits, lookStart, lookNext, modeAgrees, tablesFit};
 use design::InstrumentDesign;
 use design::PlayMode;
 use envelope::Stage;
@@ -19,6 +22,8 @@ use lists::smaller;
 use note::Note;
 use voice::Voice;
 use voice::VoiceTest;
+
+pub mod survey;
 
 // Whether a stage goes with `releasing`, and is not Idle.
 fn stage_fits(stage: Stage, releasing: bool) -> bool
@@ -43,67 +48,121 @@ fn both(a: bool, b: bool) -> bool
     if a { b } else { false }
 }
 
-fn voice_fits(v: Voice, next: u64, copies: usize) -> bool
-    ensures { λ b. ⌜ b ≡ voiceFits next copies (seen v) ⌝ }
+// What check 1 and a steal read of a voice.
+struct Head {
+    handle: u64,
+    copies: usize,
+    stage: Stage,
+    releasing: bool,
+    level: f32,
+}
+
+fn head_of(v: Voice) -> Head
+    ensures { λ r. ⌜ HeadFor v r ⌝ }
 {
-    if 8 < v.copy_count {
-        return false;
-    }
-    if v.handle < 1 {
-        return false;
-    }
-    if next <= v.handle {
-        return false;
-    }
-    if v.copy_count != copies {
-        return false;
-    }
     let env = v.env;
     let stage = env.stage;
-    stage_fits(stage, v.releasing)
+    Head {
+        handle: v.handle,
+        copies: v.copy_count,
+        stage,
+        releasing: v.releasing,
+        level: env.level,
+    }
+}
+
+fn voice_fits(h: Head, next: u64, copies: usize) -> bool
+    ensures { λ b. ⌜ ((v : Voice) → HeadFor v h → b ≡ voiceFits next copies (seen v)) ⌝ }
+{
+    if 8 < h.copies {
+        return false;
+    }
+    if h.handle < 1 {
+        return false;
+    }
+    if next <= h.handle {
+        return false;
+    }
+    if h.copies != copies {
+        return false;
+    }
+    let stage = h.stage;
+    stage_fits(stage, h.releasing)
 }
 
 // What a pass over the voices has found: how many are not releasing, whether each fits by itself, and whether the handles rise,
 // as they do where no state was made up, with the last of them.
-struct Looked {
-    sounding: usize,
-    fit: bool,
-    rise: bool,
-    low: u64,
+pub struct Looked {
+    pub sounding: usize,
+    pub fit: bool,
+    pub rise: bool,
+    pub low: u64,
 }
 
 // One voice more.
-fn look_at(before: Looked, v: Voice, next: u64, copies: usize) -> Looked
+fn look_at(before: Looked, h: Head, next: u64, copies: usize) -> Looked
     requires { ⌜ before .sounding < 64 ⌝ }
-    ensures { λ r. ⌜ r ≡ lookNext next copies before (seen v) ⌝ }
+    ensures { λ r. ⌜ ((v : Voice) → HeadFor v h → r ≡ lookNext next copies before (seen v)) ⌝ }
 {
-    let fits = voice_fits(v, next, copies);
-    let sounding = before.sounding + one_if(!v.releasing);
+    let fits = voice_fits(h, next, copies);
+    let sounding = before.sounding + one_if(!h.releasing);
     Looked {
         sounding,
         fit: both(before.fit, fits),
-        rise: both(before.rise, before.low < v.handle),
-        low: v.handle,
+        rise: both(before.rise, before.low < h.handle),
+        low: h.handle,
     }
 }
 
-// The first n voices in one pass, since a pass copies the array.
-fn look(vs: [Voice; 64], n: usize, next: u64, copies: usize) -> Looked
-    ensures { λ r. ⌜ r ≡ fold (lookNext next copies) lookStart (seenFirst n vs) ⌝ }
+// No voice yet.
+fn look_start() -> Looked
+    ensures { λ r. ⌜ r ≡ lookStart ⌝ }
 {
-    let end = smaller(n, 64);
-    let mut looked = Looked {
+    Looked {
         sounding: 0,
         fit: true,
         rise: true,
         low: 0,
-    };
+    }
+}
+
+// The first n voices of a table of 64, in one pass.
+fn look_all(vs: [Voice; 64], n: usize, next: u64, copies: usize) -> Looked
+    ensures { λ r. ⌜ r ≡ fold (lookNext next copies) lookStart (seenFirst n vs) ⌝ }
+{
+    let end = smaller(n, 64);
+    let mut looked = look_start();
     let mut i: usize = 0;
     while i < end {
-        looked = look_at(looked, vs[i], next, copies);
+        looked = look_at(looked, head_of(vs[i]), next, copies);
         i += 1;
     }
     looked
+}
+
+// The first n of eight voices.
+fn look_few(vs: [Voice; 8], n: usize, next: u64, copies: usize) -> Looked
+    ensures { λ r. ⌜ r ≡ fold (lookNext next copies) lookStart (seenFirst n vs) ⌝ }
+{
+    let end = smaller(n, 8);
+    let mut looked = look_start();
+    let mut i: usize = 0;
+    while i < end {
+        looked = look_at(looked, head_of(vs[i]), next, copies);
+        i += 1;
+    }
+    looked
+}
+
+// The first n voices. A pass copies the array that it goes over: where there are no more than eight voices, it goes over eight.
+fn look(vs: [Voice; 64], n: usize, next: u64, copies: usize) -> Looked
+    ensures { λ r. ⌜ r ≡ fold (lookNext next copies) lookStart (seenFirst n vs) ⌝ }
+{
+    if 8 < n {
+        return look_all(vs, n, next, copies);
+    }
+    let few = [vs[0], vs[1], vs[2], vs[3], vs[4], vs[5], vs[6], vs[7]];
+    look_few(few, n, next, copies)
 }
 
 // A note's place among 256 flags.
@@ -140,7 +199,7 @@ fn held_distinct(held: [Note; 256], n: usize) -> bool
 }
 
 // Whether no handle stands twice, each compared with all.
-fn handles_distinct(vs: [Voice; 64], n: usize) -> bool
+pub fn handles_distinct(vs: [Voice; 64], n: usize) -> bool
     ensures { λ b. ⌜ b ≡ distinct (handles (voicesOf (seenFirst n vs))) ⌝ }
 {
     let end = smaller(n, 64);
@@ -165,8 +224,38 @@ fn mode_fits(mode: PlayMode, held: usize, sounding: usize) -> bool
     }
 }
 
-// Check 1, the tables, where the rest has passed: at most max voices are not releasing, the mode's rule, each voice by itself, no handle and
-// no held note twice.
+// Check 1, the tables, where the rest has passed, the voices were looked at and `once` says that no handle stands twice: at most max
+// voices are not releasing, the mode's rule, each voice by itself, no held note twice.
+pub fn looked_fit(
+    looked: Looked,
+    once: bool,
+    design: InstrumentDesign,
+    held: [Note; 256],
+    h: usize,
+) -> bool
+    ensures { λ b. ⌜ ((next n : ℕ) (vs : List Voice) → looked ≡ fold (lookNext next (copiesOf design)) lookStart (seenFirst n vs) → once ≡ distinct (handles (voicesOf (seenFirst n vs))) → b ≡ tablesFit design next vs n held h) ⌝ }
+{
+    let mode = design.mode;
+    if (design.max_voices as usize) < looked.sounding {
+        return false;
+    }
+    if !mode_fits(mode, h, looked.sounding) {
+        return false;
+    }
+    if !looked.fit {
+        return false;
+    }
+    if !once {
+        return false;
+    }
+    // One note is held once: no flags, and no copy of the notes.
+    if h < 2 {
+        return true;
+    }
+    held_distinct(held, h)
+}
+
+// The same for a table that was not looked at yet.
 pub fn tables_fit(
     design: InstrumentDesign,
     next: u64,
@@ -177,31 +266,14 @@ pub fn tables_fit(
 ) -> bool
     ensures { λ b. ⌜ b ≡ tablesFit design next vs n held h ⌝ }
 {
-    let mode = design.mode;
     let looked = look(vs, n, next, design.copies() as usize);
-    if (design.max_voices as usize) < looked.sounding {
-        return false;
-    }
-    if !mode_fits(mode, h, looked.sounding) {
-        return false;
-    }
-    if !looked.fit {
-        return false;
-    }
     // Handles that rise stand once.
     let once = if looked.rise {
         true
     } else {
         handles_distinct(vs, n)
     };
-    if !once {
-        return false;
-    }
-    // One note is held once: no flags, and no copy of the notes.
-    if h < 2 {
-        return true;
-    }
-    held_distinct(held, h)
+    looked_fit(looked, once, design, held, h)
 }
 
 // Held notes with their count.

@@ -14,7 +14,8 @@ use Rattle.voice.specs.Changes.{voiceChanged, onSeen, noSeen}
 use Rattle.voice.specs.declared.Voice.{Voice}
 use Rattle.voice.proofs.Sizes.{pastEnd}
 use Rattle.voices.specs.View.{seenFirst}
-use Rattle.instrument.specs.Calls.{placedAs, editedBy, heldBy}
+use Rattle.formed.specs.declared.Held.{Held}
+use Rattle.instrument.specs.Calls.{placedAs, editedBy}
 use Rattle.instrument.specs.declared.Instrument.{Instrument}
 use Rattle.instrument.specs.declared.NoteOn.{NoteOn}
 use Rattle.instrument.proofs.Formed.{tableOf, seen-long}
@@ -67,10 +68,10 @@ module _ (x : Instrument) (o : NoteOn) where
           ap (λ (j : ℕ). seenFirst j (set (t .voices) (o .count - 1) v)) n ∙ p ∙ ap (λ (j : ℕ). seenFirst j (t .voices) ++ (seen v ∷ [])) k ∙ ap (λ (y : List Seen). y ++ (seen v ∷ [])) edited-table
 
 -- the state that comes back, T with the numbers of o, is x with its table ws
-pub carried : (x u t T : Instrument) (vs ws us : List Voice) (o : NoteOn) → u ≡ tabledAs x us → t ≡ tabledAs u vs → T ≡ tabledAs t ws
-    → placedAs T (T .voices) (o .count) (o .next) (T .sustain) (heldBy o) ≡ placedAs x ws (o .count) (o .next) (x .sustain) (heldBy o)
+pub carried : (x u t T : Instrument) (vs ws us : List Voice) (o : NoteOn) (held : Held) → u ≡ tabledAs x us → t ≡ tabledAs u vs → T ≡ tabledAs t ws
+    → placedAs T (T .voices) (o .count) (o .next) (T .sustain) held ≡ placedAs x ws (o .count) (o .next) (x .sustain) held
 unfolding placedAs
-carried x u t T vs ws us o a b c =
-    ap (λ (y : Instrument). placedAs y (y .voices) (o .count) (o .next) (y .sustain) (heldBy o)) c
-    ∙ ap (λ (y : Instrument). placedAs y ws (o .count) (o .next) (y .sustain) (heldBy o)) b
-    ∙ ap (λ (y : Instrument). placedAs y ws (o .count) (o .next) (y .sustain) (heldBy o)) a
+carried x u t T vs ws us o held a b c =
+    ap (λ (y : Instrument). placedAs y (y .voices) (o .count) (o .next) (y .sustain) held) c
+    ∙ ap (λ (y : Instrument). placedAs y ws (o .count) (o .next) (y .sustain) held) b
+    ∙ ap (λ (y : Instrument). placedAs y ws (o .count) (o .next) (y .sustain) held) a

@@ -2,9 +2,9 @@
 use mathlib.Core.Path.{_≡_, refl, ap, sym, _∙_}
 use mathlib.Core.Bool.{Bool, true, false, _&&_}
 use mathlib.Core.List.{List}
-use Prim.Native.Nat.{ℕ, _*_, _≤_, _<_}
+use Prim.Native.Nat.{ℕ, _*_, _≤_}
 use native.Mathlib.Omega.{arith}
-use borrow.Author.Tests.{leb-true, le-leb, lt-leb}
+use borrow.Author.Tests.{leb-true, le-leb}
 use lib.Dec.{leb, eqb}
 use lib.ListN.{length, length-map, length-take}
 use Rattle.lists.specs.Choose.{both, clash}
@@ -23,7 +23,7 @@ use Rattle.voices.specs.View.{seenFirst, voicesOf, inRoom}
 use Rattle.voice.specs.declared.Voice.{Voice}
 use Rattle.instrument.specs.declared.Instrument.{Instrument}
 use Rattle.formed.specs.Held.{numberOfNote, heldFirst}
-use Rattle.instrument.specs.View.{view, counted, formed}
+use Rattle.instrument.specs.View.{view, counted, formed, numbersFit}
 use Rattle.formed.specs.Check.{voiceFits, modeAgrees, tablesFit}
 
 abbrev pub tableOf : Instrument → List Seen
@@ -150,17 +150,13 @@ module _ (s : Instrument) (lv : length (s .voices) ≡ 64) (lh : length (s .held
       by true q = absurd (clash x (f (parts-of q)) e)
       by false q = sym q
 
-  -- the same for a bound
-  pub unbounded : (x y : ℕ) → (Parts s → x ≤ y) → y < x → false ≡ formed s
-  unbounded x y f h = unformed (leb x y) (λ p. le-leb x y (f p)) (lt-leb x y h)
-
 -- the tables, and then the whole
 module _ (s : Instrument) (lv : length (s .voices) ≡ 64) (lh : length (s .held) ≡ 256) where
   tables-pass : Parts s → tablesOf s ≡ true
   unfolding tablesFit
   tables-pass p = and-i (le-leb _ _ (p .sounds)) (and-i (p .mode) (and-i (p .fits) (and-i (p .once) (p .heldOnce))))
 
-  pub tables-last : (x : Bool) → s .«voice_count» ≤ 64 → s .«held_count» ≤ 256 → isAccepted (s .design) ≡ true → s .«voice_count» ≤ 2 * s .design .«max_voices»
+  tables-last : (x : Bool) → s .«voice_count» ≤ 64 → s .«held_count» ≤ 256 → isAccepted (s .design) ≡ true → s .«voice_count» ≤ 2 * s .design .«max_voices»
       → 1 ≤ s .«next_handle» → blockFits (s .design) (s .frames) ≡ true → x ≡ tablesOf s → x ≡ formed s
   unfolding tablesFit
   tables-last x a b d e f g h = by (tablesOf s) refl
@@ -191,3 +187,22 @@ module _ (s : Instrument) (lv : length (s .voices) ≡ 64) (lh : length (s .held
       by : (t : Bool) → tablesOf s ≡ t → x ≡ formed s
       by true t = h ∙ t ∙ sym (formed-of s lv lh (parts t))
       by false t = h ∙ t ∙ unformed s lv lh (tablesOf s) tables-pass t
+
+  -- by the numbers first
+  abbrev numbersOf : Bool
+  numbersOf = numbersFit (s .design) (s .«voice_count») (s .«held_count») (s .«next_handle») (s .frames)
+
+  pub numbers-not : (x : Bool) → x ≡ numbersOf → x ≡ false → false ≡ formed s
+  unfolding numbersFit
+  numbers-not x e z =
+      unformed s lv lh numbersOf (λ p. and-i (le-leb _ 64 (p .voices64)) (and-i (le-leb _ 256 (p .held256)) (and-i (p .design) (and-i (le-leb _ _ (p .size)) (and-i (le-leb 1 _ (p .begun)) (p .block)))))) (sym e ∙ z)
+
+  pub numbers-then : (x y : Bool) → x ≡ numbersOf → x ≡ true → y ≡ tablesOf s → y ≡ formed s
+  unfolding numbersFit
+  numbers-then x y e z h =
+      let a = both (leb (s .«voice_count») 64) _ (sym e ∙ z) in
+      let b = both (leb (s .«held_count») 256) _ (a .1) in
+      let c = both (isAccepted (s .design)) _ (b .1) in
+      let d = both (leb (s .«voice_count») (2 * s .design .«max_voices»)) _ (c .1) in
+      let f = both (leb 1 (s .«next_handle»)) (blockFits (s .design) (s .frames)) (d .1) in
+      tables-last y (leb-true _ 64 (a .0)) (leb-true _ 256 (b .0)) (c .0) (leb-true _ _ (d .0)) (leb-true 1 _ (f .0)) (f .1) h

@@ -68,35 +68,37 @@ module _ (s : Instrument) (f : Free s) (lv : length (s .voices) ≡ 64) (lh : le
   none-changed x = let l = seen-long s long in none-taken (s .«voice_count») x ∙ set-past (tableOf s) (s .«voice_count») x (omega arith)
 
   -- a handle is due
-  module _ (note : ℕ) (velocity : Float) (built : Bool) (held : Held) (heldOn : HeldOn (s .design .mode) (s .held) (s .«held_count») note held) (due : newHandleIn (s .design .mode) (view s) ≡ true) where
-    held-few : held .count ≤ 256
-    held-few = by (s .design .mode) heldOn
-      where
-        by : (p : PlayMode) → HeldOn p (s .held) (s .«held_count») note held → held .count ≤ 256
-        by Poly e = let k = parts .held256 in rw e k
-        by (Mono legato) w = w .room
+  module _ (note : ℕ) (velocity : Float) (built : Bool) (due : newHandleIn (s .design .mode) (view s) ≡ true) where
+    -- with the notes held after it
+    module _ (held : Held) (heldOn : HeldOn (s .design .mode) (s .held) (s .«held_count») note held) where
+      held-few : held .count ≤ 256
+      held-few = by (s .design .mode) heldOn
+        where
+          by : (p : PlayMode) → HeldOn p (s .held) (s .«held_count») note held → held .count ≤ 256
+          by Poly e = let k = parts .held256 in rw e k
+          by (Mono legato) w = w .room
 
-    abbrev heldNow : List ℕ
-    heldNow = heldFirst (held .count) (held .notes)
+      abbrev heldNow : List ℕ
+      heldNow = heldFirst (held .count) (held .notes)
 
-    new-is : noteOnIn (s .design .mode) (view s) note velocity built ≡ newNote (view s) heldNow note velocity built
-    unfolding view monoOn
-    new-is = by (s .design .mode) heldOn due
-      where
-        by : (p : PlayMode) → HeldOn p (s .held) (s .«held_count») note held → newHandleIn p (view s) ≡ true
-            → noteOnIn p (view s) note velocity built ≡ newNote (view s) heldNow note velocity built
-        by Poly e d = rw e
-        by (Mono legato) w d =
-            cond-false _ _ _ (not-true (goesOn (view s)) d) ∙ ap (λ (l : List ℕ). newNote (view s) l note velocity built) (sym (w .notes (parts .heldOnce)))
+      new-is : noteOnIn (s .design .mode) (view s) note velocity built ≡ newNote (view s) heldNow note velocity built
+      unfolding view monoOn
+      new-is = by (s .design .mode) heldOn due
+        where
+          by : (p : PlayMode) → HeldOn p (s .held) (s .«held_count») note held → newHandleIn p (view s) ≡ true
+              → noteOnIn p (view s) note velocity built ≡ newNote (view s) heldNow note velocity built
+          by Poly e d = rw e
+          by (Mono legato) w d =
+              cond-false _ _ _ (not-true (goesOn (view s)) d) ∙ ap (λ (l : List ℕ). newNote (view s) l note velocity built) (sym (w .notes (parts .heldOnce)))
 
-    given : (r : Outcome) → Gives (newNote (view s) heldNow note velocity built) r → Gives (noteOnIn (s .design .mode) (view s) note velocity built) r
-    given r g = rw new-is g
+      given : (r : Outcome) → Gives (newNote (view s) heldNow note velocity built) r → Gives (noteOnIn (s .design .mode) (view s) note velocity built) r
+      given r g = rw new-is g
 
     unspent : (s .«next_handle» ≡ lastHandle → ⊥) → false ≡ (newHandleIn (s .design .mode) (view s) && eqb (s .«next_handle») lastHandle)
     unspent z = sym (rw (due, ne-eqb (s .«next_handle») lastHandle z))
 
     -- refusal 8
-    pub on-spent : s .«next_handle» ≡ lastHandle → OnAs s note velocity built (stayOn (Refused 8) true (s .«voice_count») Kill (s .«voice_count») (s .«next_handle») held)
+    pub on-spent : s .«next_handle» ≡ lastHandle → OnAs s note velocity built (stayOn (Refused 8) true (s .«voice_count») Kill (s .«voice_count») (s .«next_handle»))
     on-spent z = record {
       spent = sym (rw (due, eq-eqb (s .«next_handle») lastHandle z));
       within = omega arith;
@@ -107,27 +109,28 @@ module _ (s : Instrument) (f : Free s) (lv : length (s .voices) ≡ 64) (lh : le
     }
 
     -- a handle and no voice
-    pub on-silent : (s .«next_handle» ≡ lastHandle → ⊥) → built ≡ false → OnAs s note velocity built (stayOn (Silent (s .«next_handle»)) false (s .«voice_count») Kill (s .«voice_count») (s .«next_handle» + 1) held)
+    pub on-silent : (s .«next_handle» ≡ lastHandle → ⊥) → built ≡ false → OnAs s note velocity built (stayOn (Silent (s .«next_handle»)) false (s .«voice_count») Kill (s .«voice_count») (s .«next_handle» + 1))
     unfolding newNote silentNote view
     on-silent z b = record {
       spent = unspent z;
       within = omega arith;
       size = none-size _ _;
       room = parts .voices64;
-      same = λ _ _ ws e.
+      same = λ _ _ held heldOn ws e.
+          let now = heldNow held heldOn in
           let t = e ∙ none-changed _ in
-          given _
+          given held heldOn _
           (rw b
-          (gives-placed s ws (s .«voice_count») (s .«next_handle» + 1) (s .sustain) held _ (silentNote (view s) heldNow) _ refl (parts .voices64) held-few (ap inRoom t ∙ counts s (f .counted) .room) refl
-          (ap (λ (l : List Seen). placed (view s) (voicesOf l) (s .«next_handle» + 1) (s .sustain) heldNow) t
-          ∙ ap (λ (x : ℕ). placed (view s) (voicesOf (tableOf s)) x (s .sustain) heldNow) (add-one (s .«next_handle»)))));
+          (gives-placed s ws (s .«voice_count») (s .«next_handle» + 1) (s .sustain) held _ (silentNote (view s) now) _ refl (parts .voices64) (held-few held heldOn) (ap inRoom t ∙ counts s (f .counted) .room) refl
+          (ap (λ (l : List Seen). placed (view s) (voicesOf l) (s .«next_handle» + 1) (s .sustain) now) t
+          ∙ ap (λ (x : ℕ). placed (view s) (voicesOf (tableOf s)) x (s .sustain) now) (add-one (s .«next_handle»)))));
       more = λ _ x. absurd (clash true refl (sym x));
     }
 
     -- a new voice, for which room is made
     module _ (stolen : Stolen) (t : StolenFrom (voicesOf (tableOf s)) (s .design .«max_voices») stolen) where
       abbrev edited : List Seen
-      edited = editedBy (spawnOn stolen (s .«voice_count») (s .«next_handle») held) (tableOf s)
+      edited = editedBy (spawnOn stolen (s .«voice_count») (s .«next_handle»)) (tableOf s)
 
       abbrev after : ℕ
       after = cond (ltb (stolen .taken) (s .«voice_count»)) (s .«voice_count») (s .«voice_count» + 1)
@@ -188,7 +191,7 @@ module _ (s : Instrument) (f : Free s) (lv : length (s .voices) ≡ 64) (lh : le
               let m : s .«voice_count» < 2 * s .design .«max_voices» = leb-false _ _ g in
               rw e (omega (arith, k, m))
 
-      pub on-started : (s .«next_handle» ≡ lastHandle → ⊥) → built ≡ true → OnAs s note velocity built (spawnOn stolen (s .«voice_count») (s .«next_handle») held)
+      pub on-started : (s .«next_handle» ≡ lastHandle → ⊥) → built ≡ true → OnAs s note velocity built (spawnOn stolen (s .«voice_count») (s .«next_handle»))
       unfolding newNote startedNote view
       on-started z b = record {
         spent = unspent z;
@@ -196,17 +199,18 @@ module _ (s : Instrument) (f : Free s) (lv : length (s .voices) ≡ 64) (lh : le
         size = one-more;
         room = fits;
         same = λ _ x. absurd (clash true refl x);
-        more = λ _ _ v ws n e.
+        more = λ _ _ held heldOn v ws n e.
+            let now = heldNow held heldOn in
             let c : seen v .count ≤ 8 = rw n (copies-most (s .design) (parts .design)) in
             let vs : voicesOf (seenFirst after ws) ≡ afterTaking (view s) ++ (newVoice (view s) note velocity ∷ []) =
             ap voicesOf e ∙ map-append (λ (x : Seen). x .voice) edited (seen v ∷ []) ∙ ap (λ (l : List M.Voice). l ++ (seen v .voice ∷ [])) edited-voices
             ∙ ap (λ (x : Seen). afterTaking (view s) ++ (x .voice ∷ [])) n in
-            given _
+            given held heldOn _
             (rw b
-            (gives-placed s ws after (s .«next_handle» + 1) (s .sustain) held _ (startedNote (view s) heldNow note velocity) _ refl fits held-few (rw e (room-more edited (seen v) edited-room c))
+            (gives-placed s ws after (s .«next_handle» + 1) (s .sustain) held _ (startedNote (view s) now note velocity) _ refl fits (held-few held heldOn) (rw e (room-more edited (seen v) edited-room c))
             (ap (λ (x : ℕ). M.Reply.started (s .«next_handle») x (stolen .«taken_handle»)) (t .killedHandle ∙ killed-is (view s)) ∙ ap (M.Reply.started (s .«next_handle») (killedHandle (view s))) (t .takenHandle ∙ taken-is (view s)))
-            (ap (λ (l : List M.Voice). placed (view s) l (s .«next_handle» + 1) (s .sustain) heldNow) vs
-            ∙ ap (λ (x : ℕ). placed (view s) (afterTaking (view s) ++ (newVoice (view s) note velocity ∷ [])) x (s .sustain) heldNow) (add-one (s .«next_handle»)))));
+            (ap (λ (l : List M.Voice). placed (view s) l (s .«next_handle» + 1) (s .sustain) now) vs
+            ∙ ap (λ (x : ℕ). placed (view s) (afterTaking (view s) ++ (newVoice (view s) note velocity ∷ [])) x (s .sustain) now) (add-one (s .«next_handle»)))));
       }
 
   pub due-poly : s .design .mode ≡ Poly → newHandleIn (s .design .mode) (view s) ≡ true
@@ -229,15 +233,16 @@ module _ (s : Instrument) (f : Free s) (lv : length (s .voices) ≡ 64) (lh : le
     unfolding goesOn isPlace view
     goes h = let l = voices-count s long in rw first-is (lt-ltb (found .place) (length (voicesOf (tableOf s))) (omega arith))
 
-    pub on-kept : (note : ℕ) (velocity : Float) (built : Bool) (held : Held) → found .place < s .«voice_count» → WithNote (s .held) (s .«held_count») note held
-        → OnAs s note velocity built (stayOn (Kept (found .handle)) false (found .place) (Keep note (s .design .glide) legato velocity) (s .«voice_count») (s .«next_handle») held)
+    pub on-kept : (note : ℕ) (velocity : Float) (built : Bool) → found .place < s .«voice_count»
+        → OnAs s note velocity built (stayOn (Kept (found .handle)) false (found .place) (Keep note (s .design .glide) legato velocity) (s .«voice_count») (s .«next_handle»))
     unfolding monoOn keptNote view firstSounding
-    on-kept note velocity built held h w = record {
+    on-kept note velocity built h = record {
       spent = sym (ap (λ (b : Bool). b && eqb (s .«next_handle») lastHandle) (ap (λ (p : PlayMode). newHandleIn p (view s)) mono ∙ ap not (goes h)));
       within = omega arith;
       size = none-size _ _;
       room = parts .voices64;
-      same = λ _ _ ws e.
+      same = λ _ _ held heldOn ws e.
+          let w : WithNote (s .held) (s .«held_count») note held = subst (λ (p : PlayMode). HeldOn p (s .held) (s .«held_count») note held) mono heldOn in
           let g = keptVoice (s .design .glide) legato note velocity in
           let c = e ∙ none-taken (found .place) _ in
           let r = answeredAs (Kept (found .handle)) (placedAs s ws (s .«voice_count») (s .«next_handle») (s .sustain) held) in

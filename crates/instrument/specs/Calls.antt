@@ -194,8 +194,8 @@ HeldOn Poly notes count note h = h ≡ record { notes = notes; count = count }
 HeldOn (Mono legato) notes count note h = WithNote notes count note h
 
 -- no voice is added: the one at `place` goes on, or none is there and none is changed
-abbrev pub stayOn : Reply → Bool → ℕ → VoiceChange → ℕ → ℕ → Held → NoteOn
-stayOn reply spent place change n next held = record {
+abbrev pub stayOn : Reply → Bool → ℕ → VoiceChange → ℕ → ℕ → NoteOn
+stayOn reply spent place change n next = record {
   reply = reply;
   spent = spent;
   place = place;
@@ -204,13 +204,11 @@ stayOn reply spent place change n next held = record {
   adds = false;
   count = n;
   next = next;
-  notes = held .notes;
-  «held_count» = held .count;
 }
 
 -- a new voice, for which room is made
-abbrev pub spawnOn : Stolen → ℕ → ℕ → Held → NoteOn
-spawnOn stolen n next held = record {
+abbrev pub spawnOn : Stolen → ℕ → ℕ → NoteOn
+spawnOn stolen n next = record {
   reply = Started next (stolen .«killed_handle») (stolen .«taken_handle»);
   spent = false;
   place = stolen .killed;
@@ -219,27 +217,23 @@ spawnOn stolen n next held = record {
   adds = true;
   count = cond (ltb (stolen .taken) n) n (n + 1);
   next = next + 1;
-  notes = held .notes;
-  «held_count» = held .count;
 }
-
--- the notes that it leaves held
-abbrev pub heldBy : NoteOn → Held
-heldBy o = record { notes = o .notes; count = o .«held_count» }
 
 -- the table with its one voice changed, and without the one taken out
 abbrev pub editedBy : NoteOn → List Seen → List Seen
 editedBy o l = without (o .taken) (set l (o .place) (onSeen (voiceChanged (o .change)) (getD l (o .place) noSeen)))
 
 -- a note-on that is carried out as `o` says is the definition's: refusal 8 where a handle is due and none is left; else the table ws,
--- edited, with the new voice v behind it where one is added
+-- edited, with the new voice v behind it where one is added, and the notes held after it
 pub record OnAs (s : Instrument) (note : ℕ) (velocity : Float) (built : Bool) (o : NoteOn) : Type 0 where
   pub spent : o .spent ≡ newHandleIn (s .design .mode) (view s) && eqb (s .«next_handle») lastHandle
   pub within : o .taken ≤ s .«voice_count»
   pub size : o .count ≡ length (editedBy o (seenFirst (s .«voice_count») (s .voices))) + oneIf (o .adds)
   pub room : o .count ≤ 64
-  pub same : o .spent ≡ false → o .adds ≡ false → (ws : List Voice) → seenFirst (o .count) ws ≡ editedBy o (seenFirst (s .«voice_count») (s .voices))
-      → Gives (noteOnIn (s .design .mode) (view s) note velocity built) (answeredAs (o .reply) (placedAs s ws (o .count) (o .next) (s .sustain) (heldBy o)))
-  pub more : o .spent ≡ false → o .adds ≡ true → (v : Voice) (ws : List Voice) → seen v ≡ record { voice = newVoice (view s) note velocity; count = copiesOf (s .design) }
+  pub same : o .spent ≡ false → o .adds ≡ false → (held : Held) → HeldOn (s .design .mode) (s .held) (s .«held_count») note held
+      → (ws : List Voice) → seenFirst (o .count) ws ≡ editedBy o (seenFirst (s .«voice_count») (s .voices))
+      → Gives (noteOnIn (s .design .mode) (view s) note velocity built) (answeredAs (o .reply) (placedAs s ws (o .count) (o .next) (s .sustain) held))
+  pub more : o .spent ≡ false → o .adds ≡ true → (held : Held) → HeldOn (s .design .mode) (s .held) (s .«held_count») note held
+      → (v : Voice) (ws : List Voice) → seen v ≡ record { voice = newVoice (view s) note velocity; count = copiesOf (s .design) }
       → seenFirst (o .count) ws ≡ editedBy o (seenFirst (s .«voice_count») (s .voices)) ++ (seen v ∷ [])
-      → Gives (noteOnIn (s .design .mode) (view s) note velocity built) (answeredAs (o .reply) (placedAs s ws (o .count) (o .next) (s .sustain) (heldBy o)))
+      → Gives (noteOnIn (s .design .mode) (view s) note velocity built) (answeredAs (o .reply) (placedAs s ws (o .count) (o .next) (s .sustain) held))

@@ -3,16 +3,20 @@
 ghost use mathlib.Core.Path.{_≡_};
 ghost use mathlib.Core.Bool.{Bool, true};
 ghost use Prim.Native.Nat.{_≤_, _<_};
-ghost use Rattle.design.specs.Accepted.{isAccepted};
+ghost use Rattle.design.specs.Accepted.{isAccepted, copiesOf};
 ghost use Rattle.model.specs.Types.{Call};
 ghost use Rattle.model.specs.Formed.{framesFit, blockFits};
 ghost use Rattle.model.specs.Queries.{isActive, activeVoices};
 ghost use Rattle.design.specs.declared.PlayMode.the-variants.{Poly, Mono};
 ghost use Rattle.model.specs.Notes.{velocityOf};
+ghost use Rattle.lists.specs.Prefix.{fold};
+ghost use Rattle.voices.specs.View.{seenFirst};
 ghost use Rattle.formed.specs.Held.{heldFirst};
+ghost use Rattle.formed.specs.Check.{lookStart, lookNext};
+ghost use Rattle.formed.specs.Survey.{Surveyed};
 ghost use Rattle.instrument.specs.declared.Instrument.{Instrument};
-ghost use Rattle.instrument.specs.View.{view, counted, formed as formedState};
-ghost use Rattle.instrument.specs.Calls.{emptyModel, withFrames, refusedAs, answeredAs, barredBy, fallBackOf, Reads, OffAs, lastHandle, placedAs, stayOn, spawnOn, heldBy, HeldOn, OnAs, CallAs, StartAs};
+ghost use Rattle.instrument.specs.View.{view, counted, numbersFit, formed as formedState};
+ghost use Rattle.instrument.specs.Calls.{emptyModel, withFrames, refusedAs, answeredAs, barredBy, fallBackOf, Reads, OffAs, lastHandle, placedAs, stayOn, spawnOn, HeldOn, OnAs, CallAs, StartAs};
 ghost use Rattle.instrument.specs.Asked.{answerOf, askedOf, VoiceAs};
 use design::DesignReply;
 use design::InstrumentDesign;
@@ -20,6 +24,9 @@ use design::PlayMode;
 use design::zero_design;
 use envelope::EnvGen;
 use formed::Held;
+use formed::Looked;
+use formed::survey::Survey;
+use formed::survey::survey_of;
 use note::Note;
 use stream::UnisonCopy;
 use voice::Voice;
@@ -27,6 +34,7 @@ use voice::VoiceChange;
 use voice::VoiceTest;
 use voice::new_voice;
 use voices::steal::Stolen;
+use voices::steal::steal;
 
 mod mix;
 mod plan;
@@ -131,8 +139,6 @@ struct NoteOn {
     adds: bool,
     count: usize,
     next: u64,
-    notes: [Note; 256],
-    held_count: usize,
 }
 
 fn is_accepted(design: InstrumentDesign) -> bool
@@ -168,35 +174,63 @@ fn block_fits(design: InstrumentDesign, frames: usize) -> bool
     frames_fit(design, frames)
 }
 
+// Check 1, the counts, the design, the next handle and the block.
+fn numbers_fit(design: InstrumentDesign, n: usize, h: usize, next: u64, frames: usize) -> bool
+    ensures { λ b. ⌜ b ≡ numbersFit design n h next frames ⌝ }
+{
+    if 64 < n {
+        return false;
+    }
+    if 256 < h {
+        return false;
+    }
+    if !is_accepted(design) {
+        return false;
+    }
+    if 2 * (design.max_voices as usize) < n {
+        return false;
+    }
+    if next < 1 {
+        return false;
+    }
+    block_fits(design, frames)
+}
+
 impl Instrument {
-    // Check 1, the design, the counts and the handles.
+    // Check 1.
     pub fn well_formed(self) -> bool
         ensures { λ b. ⌜ b ≡ formedState self ⌝ }
     {
+        let design = self.design;
         let n = self.voice_count;
         let h = self.held_count;
-        let design = self.design;
-        if 64 < n {
-            return false;
-        }
-        if 256 < h {
-            return false;
-        }
-        if !is_accepted(design) {
-            return false;
-        }
-        if 2 * (design.max_voices as usize) < n {
-            return false;
-        }
-        if self.next_handle < 1 {
-            return false;
-        }
-        if !block_fits(design, self.frames) {
+        let next = self.next_handle;
+        if !numbers_fit(design, n, h, next, self.frames) {
             return false;
         }
         let vs = self.voices;
         let held = self.held;
-        formed::tables_fit(design, self.next_handle, vs, n, held, h)
+        formed::tables_fit(design, next, vs, n, held, h)
+    }
+
+    // Check 1, where the voices were looked at.
+    fn formed_by(self, looked: Looked) -> bool
+        ensures { λ b. ⌜ (looked ≡ fold (lookNext (self .«next_handle») (copiesOf (self .design))) lookStart (seenFirst (self .«voice_count») (self .voices)) → b ≡ formedState self) ⌝ }
+    {
+        let design = self.design;
+        let n = self.voice_count;
+        let h = self.held_count;
+        if !numbers_fit(design, n, h, self.next_handle, self.frames) {
+            return false;
+        }
+        let vs = self.voices;
+        let once = if looked.rise {
+            true
+        } else {
+            formed::handles_distinct(vs, n)
+        };
+        let held = self.held;
+        formed::looked_fit(looked, once, design, held, h)
     }
 }
 
@@ -554,9 +588,10 @@ fn velocity_of(velocity: f32) -> f32
 }
 
 // The notes held after a note-on: in Mono the note is the newest.
-fn held_on(mode: PlayMode, notes: [Note; 256], count: usize, note: u8) -> Held
-    ensures { λ h. ⌜ HeldOn mode notes count note h ⌝ }
+fn held_on(design: InstrumentDesign, notes: [Note; 256], count: usize, note: u8) -> Held
+    ensures { λ h. ⌜ HeldOn (design .mode) notes count note h ⌝ }
 {
+    let mode = design.mode;
     match mode {
         PlayMode::Poly => Held { notes, count },
         PlayMode::Mono { legato: _ } => formed::held_with(notes, count, note),
@@ -564,18 +599,9 @@ fn held_on(mode: PlayMode, notes: [Note; 256], count: usize, note: u8) -> Held
 }
 
 // No voice is added: the one at `place` goes on, or none is there and none is changed; `next` is the next handle after it.
-fn stay(
-    reply: Reply,
-    spent: bool,
-    place: usize,
-    change: VoiceChange,
-    n: usize,
-    next: u64,
-    held: Held,
-) -> NoteOn
-    ensures { λ o. ⌜ o ≡ stayOn reply spent place change n next held ⌝ }
+fn stay(reply: Reply, spent: bool, place: usize, change: VoiceChange, n: usize, next: u64) -> NoteOn
+    ensures { λ o. ⌜ o ≡ stayOn reply spent place change n next ⌝ }
 {
-    let notes = held.notes;
     NoteOn {
         reply,
         spent,
@@ -585,17 +611,14 @@ fn stay(
         adds: false,
         count: n,
         next,
-        notes,
-        held_count: held.count,
     }
 }
 
 // A new voice, for which room is made: one voice more, or as many where one is taken out.
-fn spawn_voice(stolen: Stolen, n: usize, next: u64, held: Held) -> NoteOn
+fn spawn_voice(stolen: Stolen, n: usize, next: u64) -> NoteOn
     requires { ⌜ (n ≤ 64) × (next < lastHandle) ⌝ }
-    ensures { λ o. ⌜ o ≡ spawnOn stolen n next held ⌝ }
+    ensures { λ o. ⌜ o ≡ spawnOn stolen n next ⌝ }
 {
-    let notes = held.notes;
     let count = if stolen.taken < n { n } else { n + 1 };
     let after = next + 1;
     NoteOn {
@@ -607,18 +630,16 @@ fn spawn_voice(stolen: Stolen, n: usize, next: u64, held: Held) -> NoteOn
         adds: true,
         count,
         next: after,
-        notes,
-        held_count: held.count,
     }
 }
 
 // The table is edited: the rest of what a note-on does.
-fn settled(mut state: Instrument, on: NoteOn) -> Outcome
-    ensures { λ r. ⌜ r ≡ answeredAs (on .reply) (placedAs state (state .voices) (on .count) (on .next) (state .sustain) (heldBy on)) ⌝ }
+fn settled(mut state: Instrument, on: NoteOn, held: Held) -> Outcome
+    ensures { λ r. ⌜ r ≡ answeredAs (on .reply) (placedAs state (state .voices) (on .count) (on .next) (state .sustain) held) ⌝ }
 {
-    let notes = on.notes;
+    let notes = held.notes;
     state.held = notes;
-    state.held_count = on.held_count;
+    state.held_count = held.count;
     state.voice_count = on.count;
     state.next_handle = on.next;
     let reply = on.reply;
@@ -627,35 +648,34 @@ fn settled(mut state: Instrument, on: NoteOn) -> Outcome
 
 impl Instrument {
     // What a note-on does: the Mono voice that sounds goes on, else a handle is due, with a voice where one was built.
-    fn on_of(self, note: u8, velocity: f32, built: bool) -> NoteOn
-        requires { ⌜ barredBy self ≡ 0 ⌝ }
+    fn on_of(self, seen: Survey, note: u8, velocity: f32, built: bool) -> NoteOn
+        requires { ⌜ (barredBy self ≡ 0) × Surveyed (self .«next_handle») (copiesOf (self .design)) (seenFirst (self .«voice_count») (self .voices)) seen ⌝ }
         ensures { λ o. ⌜ OnAs self note velocity built o ⌝ }
     {
         let design = self.design;
         let mode = design.mode;
         let n = self.voice_count;
         let next = self.next_handle;
-        let notes = self.held;
-        let held = held_on(mode, notes, self.held_count, note);
         if let PlayMode::Mono { legato } = mode {
             let vs = self.voices;
             let found = voices::find_first(vs, n, VoiceTest::Sounding);
             if found.place < n {
                 let reply = Reply::Kept(found.handle);
                 let change = VoiceChange::Keep(note, design.glide, legato, velocity);
-                return stay(reply, false, found.place, change, n, next, held);
+                return stay(reply, false, found.place, change, n, next);
             }
         }
         let kill = VoiceChange::Kill;
         if next == 0xffff_ffff_ffff_ffff {
-            return stay(Reply::Refused(8), true, n, kill, n, next, held);
+            return stay(Reply::Refused(8), true, n, kill, n, next);
         }
         if !built {
-            return stay(Reply::Silent(next), false, n, kill, n, next + 1, held);
+            return stay(Reply::Silent(next), false, n, kill, n, next + 1);
         }
-        let vs = self.voices;
-        let stolen = voices::steal::steal(vs, n, design.max_voices as usize);
-        spawn_voice(stolen, n, next, held)
+        let looked = seen.looked;
+        let max = design.max_voices as usize;
+        let stolen = steal(looked.sounding, seen.sounds, seen.stands, n, max);
+        spawn_voice(stolen, n, next)
     }
 
     // Starts a note, or goes on with the Mono voice; at velocity 0 it is a note-off. In the table one voice is changed, those
@@ -669,14 +689,20 @@ impl Instrument {
         }
         let frames = self.frames;
         self.frames = 0;
-        let number = self.barred(self.well_formed(), frames);
+        let design = self.design;
+        let next = self.next_handle;
+        let vs = self.voices;
+        let seen = survey_of(vs, self.voice_count, next, design.copies() as usize);
+        let number = self.barred(self.formed_by(seen.looked), frames);
         if number != 0 {
             return refused(self, frames, number);
         }
-        let on = self.on_of(note, level, built);
+        let on = self.on_of(seen, note, level, built);
         if on.spent {
             return refused(self, frames, 8);
         }
+        let notes = self.held;
+        let held = held_on(design, notes, self.held_count, note);
         let k = on.place;
         let change = on.change;
         if k < self.voice_count {
@@ -688,11 +714,9 @@ impl Instrument {
             i += 1;
         }
         if on.adds {
-            let design = self.design;
-            let next = self.next_handle;
             let v = new_voice(design, self.bend, self.brightness, next, note, level);
             self.voices[on.count - 1] = v;
         }
-        settled(self, on)
+        settled(self, on, held)
     }
 }

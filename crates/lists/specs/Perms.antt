@@ -22,9 +22,6 @@ times h l = count (λ (x : ℕ). eqb x h) l
 pub times-append : (h : ℕ) (xs ys : List ℕ) → times h (xs ++ ys) ≡ times h xs + times h ys
 times-append h xs ys = count-append (λ (x : ℕ). eqb x h) xs ys
 
-pub times-self : (h : ℕ) → times h (h ∷ []) ≡ 1
-times-self h = rw (eq-eqb h h refl)
-
 pub times-other : (h x : ℕ) → (x ≡ h → ⊥) → times h (x ∷ []) ≡ 0
 times-other h x n = rw (ne-eqb x h n)
 

@@ -117,10 +117,6 @@ module _ {A : Type 0} where
       by true e ih = rw e (ap (_∷_ x) ih)
       by false e ih = rw e ih
 
-  pub kept-more : (p : A → Bool) (xs : List A) (i : ℕ) (d : A) → i < length xs
-      → kept p (take (i + 1) xs) ≡ kept p (take i xs) ++ kept p (getD xs i d ∷ [])
-  kept-more p xs i d h = rw (take-more xs i d) (kept-append p (take i xs) (getD xs i d ∷ []))
-
   -- those that pass and those that do not are all
   pub count-kept : (p q : A → Bool) (xs : List A) → count p (kept q xs) + count p (kept (λ (a : A). not (q a)) xs) ≡ count p xs
   count-kept p q [] = refl

@@ -1,40 +1,120 @@
 -- One look at a table finds the voices that make room.
 use mathlib.Core.Path.{_≡_, refl, ap, sym, _∙_}
 use mathlib.Core.Bool.{Bool, true, false, cond}
-use mathlib.Core.List.{List, map}
-use Prim.Native.Nat.{ℕ, _+_, _*_, _/_, _≤_, _<_}
+use mathlib.Core.List.{List, [], _∷_, _++_, map}
+use Prim.Native.Nat.{ℕ, suc, _+_, _*_, _/_, _≤_, _<_}
 use native.Mathlib.Omega.{arith}
-use borrow.Author.Tests.{le-leb, lt-leb, leb-true, leb-false}
-use lib.Dec.{leb}
+use borrow.Author.Tests.{le-leb, lt-leb, leb-true, leb-false, ltb-true, ltb-false}
+use lib.Dec.{leb, ltb, eqb}
 use lib.Ieee.{Float}
-use lib.ListN.{length, take, getD, length-take, length-set, List·getD-eq-default}
+use lib.ListN.{length, take, getD, length-append, length-set, List·getD-append, List·getD-eq-default}
 use Rattle.float32.specs.Order.{below}
 use Rattle.lists.specs.Choose.{chosen, cond-true, cond-false}
 use Rattle.lists.specs.Count.{count}
 use Rattle.lists.specs.Least.{lowest, lowestNext, lowest-more, lowest-le, lowest-map}
 use Rattle.lists.specs.Lone.{set-past}
 use Rattle.lists.specs.Places.{without, without-past}
-use lib.Seq.{map-set-same}
+use lib.Seq.{map-set-same, take-all, take-at, getD-at}
 use Rattle.model.specs.Types.{Voice, noVoice, Model}
 use Rattle.model.specs.Formed.{max}
 use Rattle.model.specs.Voices.{sounding, anyVoice, quieter, killedVoice, changed, handleAt, quietestSounding, quietest}
 use Rattle.model.specs.Notes.{full, afterKill, killedHandle, crowded, afterTaking, takenHandle}
 use Rattle.model.proofs.Levels.{quieter-ordered}
 use Rattle.model.proofs.Born.{quietest-is, killed-level, killed-handle, changed-same}
+use Rattle.voices.specs.declared.steal.Quietest.{Quietest}
 use Rattle.voices.specs.declared.steal.Stolen.{Stolen}
-use Rattle.voices.specs.Steal.{killedAt, takenAt, StolenFrom}
+use Rattle.voices.specs.Steal.{IsQuietest, killedAt, takenAt, StolenFrom}
 
--- the place of the quietest among one voice more
-pub quietest-step : (p : Voice → Bool) (xs : List Voice) (i k r : ℕ) (passes under : Bool) → i < length xs → k ≡ lowest noVoice quieter p (take i xs)
-    → passes ≡ p (getD xs i noVoice) → under ≡ quieter (getD xs i noVoice) (getD xs k noVoice) → r ≡ lowestNext i k passes under
-    → (r ≡ lowest noVoice quieter p (take (i + 1) xs)) × (r ≤ i + 1)
-quietest-step p xs i k r passes under h e a b q =
-    let more = lowest-more noVoice quieter p quieter-ordered xs i h in
-    let next = rw (← e, ← a, ← b) at more in
-    let is : r ≡ lowest noVoice quieter p (take (i + 1) xs) = q ∙ sym next in
-    let le = lowest-le noVoice quieter p (take (i + 1) xs) in
-    let short = length-take (i + 1) xs in
-    (is, omega (arith, is, le, short))
+-- the first voice of all, or the next place, whatever it is compared with
+next-first : (i : ℕ) (b u v : Bool) → lowestNext i i b u ≡ lowestNext i i b v
+next-first i true true true = refl
+next-first i true true false = refl
+next-first i true false true = refl
+next-first i true false false = refl
+next-first i false u v = refl
+
+-- a place before the new one is the old place
+next-old : (i k : ℕ) (b u : Bool) → lowestNext i k b u < i → lowestNext i k b u ≡ k
+next-old i k true true h = let z : ⊥ = omega arith in absurd z
+next-old i k true false h = refl
+next-old i k false u h = by (eqb k i) refl
+  where
+    by : (c : Bool) → eqb k i ≡ c → lowestNext i k false u ≡ k
+    by true e = let z : suc i < i = rw e at h in let n : ⊥ = omega arith in absurd n
+    by false e = rw e
+
+pub quietest-none : (p : Voice → Bool) (q : Quietest) → q .place ≡ 0 → IsQuietest p [] q
+quietest-none p q e = record { place = e; level = λ h. let z : ⊥ = omega arith in absurd z; handle = λ h. let z : ⊥ = omega arith in absurd z }
+
+-- the quietest among one voice more
+module _ (p : Voice → Bool) (xs : List Voice) (x : Voice) (best : Quietest) (a : IsQuietest p xs best) (i : ℕ) (ei : i ≡ length xs) (passes : Bool) (ep : passes ≡ p x)
+    (level : Float) (el : level ≡ x .env .level) (under : Bool) (eu : under ≡ below level (best .level)) (place : ℕ) (er : place ≡ lowestNext i (best .place) passes under) where
+  abbrev more : List Voice
+  more = xs ++ (x ∷ [])
+
+  more-size : length more ≡ i + 1
+  more-size = let l = length-append xs (x ∷ []) in omega arith
+
+  last-is : getD more i noVoice ≡ x
+  last-is = getD-at xs x [] noVoice i (sym ei)
+
+  old-is : (k : ℕ) → k < i → getD more k noVoice ≡ getD xs k noVoice
+  old-is k h = List·getD-append xs (x ∷ []) noVoice k (omega arith)
+
+  -- what the new voice is compared with counts only where there is one
+  compared : lowestNext i (best .place) passes under ≡ lowestNext i (best .place) passes (quieter x (getD more (best .place) noVoice))
+  unfolding quieter
+  compared = by (ltb (best .place) i) refl
+    where
+      by : (b : Bool) → ltb (best .place) i ≡ b → lowestNext i (best .place) passes under ≡ lowestNext i (best .place) passes (below (x .env .level) (getD more (best .place) noVoice .env .level))
+      by true e =
+          let h : best .place < i = ltb-true _ _ e in
+          let l = a .level (omega arith) ∙ ap (λ (v : Voice). v .env .level) (sym (old-is (best .place) h)) in
+          ap (lowestNext i (best .place) passes) (eu ∙ ap (λ (y : Float). below y (best .level)) el ∙ ap (below (x .env .level)) l)
+      by false e =
+          let h : i ≤ best .place = ltb-false _ _ e in
+          let le = lowest-le noVoice quieter p xs in
+          let q = a .place in
+          let k : best .place ≡ i = omega (arith, h, le, q) in
+          rw k (next-first i passes under (below (x .env .level) (getD more i noVoice .env .level)))
+
+  place-is : place ≡ lowest noVoice quieter p more
+  place-is =
+      let step = lowest-more noVoice quieter p quieter-ordered more i (let s = more-size in omega arith) in
+      let front : take i more ≡ xs = take-at xs (x ∷ []) i (sym ei) in
+      let all : take (i + 1) more ≡ more = take-all (i + 1) more (let s = more-size in omega arith) in
+      let next = rw (front, all, last-is, ← a .place, ← ep) at step in
+      er ∙ compared ∙ sym next
+
+  pub quieter-new : place ≡ i → (handle : ℕ) → handle ≡ x .handle → IsQuietest p more (record { place = place; level = level; handle = handle })
+  quieter-new e handle eh = record {
+    place = place-is;
+    level = λ h. el ∙ ap (λ (v : Voice). v .env .level) (sym last-is) ∙ ap (λ (k : ℕ). getD more k noVoice .env .level) (sym e);
+    handle = λ h. eh ∙ ap (λ (v : Voice). v .handle) (sym last-is) ∙ ap (λ (k : ℕ). handleAt k more) (sym e);
+  }
+
+  pub quieter-old : (place ≡ i → ⊥) → IsQuietest p more (record { place = place; level = best .level; handle = best .handle })
+  quieter-old n = record { place = place-is; level = λ h. a .level (inside h) ∙ sym (same (λ (v : Voice). v .env .level) h); handle = λ h. a .handle (inside h) ∙ sym (same (λ (v : Voice). v .handle) h) }
+    where
+      early : place < length more → place < i
+      early h = let s = more-size in let z : place ≡ i → ⊥ = n in omega arith
+
+      kept : place < length more → place ≡ best .place
+      kept h = let k = early h in er ∙ next-old i (best .place) passes under (rw er at k)
+
+      inside : place < length more → best .place < length xs
+      inside h = let k = early h in let e = kept h in omega arith
+
+      same : {B : Type 0} (f : Voice → B) → place < length more → f (getD more place noVoice) ≡ f (getD xs (best .place) noVoice)
+      same f h = ap f (old-is place (early h)) ∙ ap (λ (k : ℕ). f (getD xs k noVoice)) (kept h)
+
+-- the handle that goes with a place that was asked for
+pub asked-handle : (p : Voice → Bool) (l : List Voice) (q : Quietest) (b : Bool) (n r : ℕ) → n ≡ length l → IsQuietest p l q → r ≡ cond b (q .place) n → r < n → q .handle ≡ handleAt r l
+asked-handle p l q true n r en a e h = a .handle (omega arith) ∙ ap (λ (k : ℕ). handleAt k l) (sym e)
+asked-handle p l q false n r en a e h = let z : ⊥ = omega arith in absurd z
+
+pub no-voice-handle : (l : List Voice) (n r : ℕ) → n ≡ length l → n ≤ r → 0 ≡ handleAt r l
+no-voice-handle l n r e h = sym (ap (λ (v : Voice). v .handle) (List·getD-eq-default l noVoice (omega arith)))
 
 -- half of a count reaches max where the count reaches twice max
 half : (max m : ℕ) → leb max (m / 2) ≡ leb (2 * max) m

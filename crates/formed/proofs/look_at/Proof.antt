@@ -17,7 +17,7 @@ add-sounding c =
     let s = c .before .before .before .before in
     let few = s .pre in
     let e = c .before .one-if .ensures in
-    let one = oneIf-le (not (s .args .v .releasing)) in
+    let one = oneIf-le (not (s .args .h .releasing)) in
     omega (arith, few, e, one)
 
 both-requires : tie.Need-both-requires
@@ -32,7 +32,7 @@ returns c =
     let k = b .before .before in
     let f = k .before .before in
     let s = f .before in
-    look-one (s .args .next) (s .args .copies) (s .args .before) (s .args .v) _ _ _ _ (k .one-if .ensures) (f .voice-fits .ensures) (b .both .ensures) (c .both2 .ensures)
+    λ v x. look-one (s .args .next) (s .args .copies) (s .args .before) (s .args .h) v x _ _ _ _ (k .one-if .ensures) (f .voice-fits .ensures v x) (b .both .ensures) (c .both2 .ensures)
 
 pub look-at-spec : {M : Type 1} → statement M
 look-at-spec =

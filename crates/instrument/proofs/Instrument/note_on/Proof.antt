@@ -1,22 +1,20 @@
 use mathlib.Core.Path.{_≡_, refl, ap, sym, subst, _∙_}
-use mathlib.Core.Bool.{true}
 use mathlib.Core.Logic.{⊎-elim}
-use Prim.Native.Nat.{_≤_, _-_}
+use Prim.Native.Nat.{ℕ, _≤_, _-_}
 use native.Mathlib.Omega.{arith}
 use borrow.Author.Needs.{needs}
 use lib.ListN.{length, getD, set}
 use Rattle.lists.specs.Pass.{Moved, moved-start, moved-more}
 use Rattle.voice.specs.View.{seen}
 use Rattle.voice.proofs.Sizes.{pastEnd}
-use Rattle.design.specs.declared.InstrumentDesign.{InstrumentDesign}
-use Rattle.design.specs.Accepted.{isAccepted, copiesOf}
-use Rattle.model.specs.Voices.{newVoice}
+use Rattle.design.specs.Accepted.{copiesOf}
 use Rattle.instrument.specs.View.{view}
 use Rattle.instrument.specs.Calls.{placedAs, blockedAs, withFrames, answeredAs, refusedAs}
 use Rattle.instrument.specs.declared.Instrument.{Instrument}
 use Rattle.instrument.proofs.States.{tabledAs}
 use Rattle.instrument.proofs.Calls.{Free, free, counts, barred-call, shut, shut-free, shut-passes, of-shut}
-use Rattle.instrument.proofs.Formed.{parts-of}
+use Rattle.formed.specs.Survey.{Surveyed}
+use Rattle.instrument.proofs.Formed.{parts-of, tableOf}
 use Rattle.instrument.proofs.Ons.{off-is, on-off, on-refused, on-done}
 use Rattle.instrument.proofs.Edits.{Changed, change-one, change-none, same-count, edited-same, edited-more, carried}
 use Rattle.instrument.proofs.Sizes.{voices-long, held-long}
@@ -24,7 +22,7 @@ use Rattle.instrument.proofs.Instrument.note_on.Statement.{statement}
 use Rattle.instrument.proofs.Instrument.note_on.Tie as tie
 
 abbrev Inv-loop : tie.InvT-loop
-Inv-loop note velocity built self₀ level frames number on k i₀ self i =
+Inv-loop note velocity built self₀ level frames design next number on held k i₀ self i =
     (self .«voice_count» ≡ self₀ .«voice_count»)
     × (self₀ .«voice_count» ≤ 64)
     × (length (self₀ .voices) ≡ 64)
@@ -32,22 +30,22 @@ Inv-loop note velocity built self₀ level frames number on k i₀ self i =
     × Moved seen (on .taken) (self₀ .«voice_count») i (self .voices) (self₀ .voices)
 
 abbrev μ-loop : tie.MeasureT-loop
-μ-loop note velocity built self₀ level frames number on k i₀ self i = self₀ .«voice_count» - i
+μ-loop note velocity built self₀ level frames design next number on held k i₀ self i = self₀ .«voice_count» - i
 
 -- a state that does not bar the call
-fine : (e : tie.Else2 Inv-loop μ-loop) → Free (e .before .before .before .before .before .args .t1)
+fine : (e : tie.Else2 Inv-loop μ-loop) → Free (e .before .before .before .before .before .before .before .before .before .args .t1)
 unfolding blockedAs
 fine e = free _ (sym (e .before .barred .ensures) ∙ e .if2 .left)
 
-few : (o : tie.After-on-of Inv-loop μ-loop) → o .before .before .before .before .before .before .args .t1 .«voice_count» ≤ 64
+few : (o : tie.After-on-of Inv-loop μ-loop) → o .before .before .before .before .before .before .before .before .before .before .args .t1 .«voice_count» ≤ 64
 few o = counts _ (fine (o .before) .counted) .voices64
 
 -- the state with its one voice changed
-changes : (j : tie.Joined4 Inv-loop μ-loop) → Changed (withFrames (j .before .before .before .before .before .before .before .before .args .t1) 0) (j .before .before .on-of .result) (j .if4 .self)
+changes : (j : tie.Joined4 Inv-loop μ-loop) → Changed (withFrames (j .before .before .before .before .before .before .before .before .before .before .before .before .before .before .args .t1) 0) (j .before .before .before .before .on-of .result) (j .if4 .self)
 unfolding placedAs blockedAs
 changes j =
-    let o = j .before .before in
-    let s = o .before .before .before .before .before .before in
+    let o = j .before .before .before .before in
+    let s = o .before .before .before .before .before .before .before .before .before .before in
     let x = withFrames (s .args .t1) 0 in
     let n = few o in
     let lv = voices-long (s .args .t1) (s .good .0) in
@@ -65,11 +63,29 @@ note-off-requires c κs = search needs
 returns : tie.Need-returns Inv-loop μ-loop
 returns c = on-off _ _ _ _ (off-is _ _ _ (c .before .before .velocity-of .ensures) (c .before .if1 .taken)) (c .note-off .result) (c .note-off .ensures)
 
-well-formed-requires : tie.Need-well-formed-requires Inv-loop μ-loop
-well-formed-requires c κs = search needs
+copies-requires : tie.Need-copies-requires Inv-loop μ-loop
+copies-requires c κs = search needs
+
+cast-survey-of : tie.Need-cast-survey-of Inv-loop μ-loop
+cast-survey-of c = search needs
+
+survey-of-requires : tie.Need-survey-of-requires Inv-loop μ-loop
+survey-of-requires c κs = search needs
+
+formed-by-requires : tie.Need-formed-by-requires Inv-loop μ-loop
+formed-by-requires c κs = search needs
+
+-- what one look at the voices found
+looks : (v : tie.After-survey-of Inv-loop μ-loop) → let x = withFrames (v .before .before .before .before .before .before .args .t1) 0 in
+    Surveyed (x .«next_handle») (copiesOf (x .design)) (tableOf x) (v .survey-of .result)
+unfolding blockedAs
+looks v =
+    let x = withFrames (v .before .before .before .before .before .before .args .t1) 0 in
+    subst (λ (k : ℕ). Surveyed (x .«next_handle») k (tableOf x) (v .survey-of .result)) (v .before .copies .ensures) (v .survey-of .ensures)
 
 barred-requires : tie.Need-barred-requires Inv-loop μ-loop
-barred-requires c κs = (c .well-formed .ensures, refl)
+unfolding blockedAs
+barred-requires c κs = (c .formed-by .ensures (looks (c .before) .looked), refl)
 
 refused-requires : tie.Need-refused-requires Inv-loop μ-loop
 refused-requires c κs = search needs
@@ -80,7 +96,7 @@ returns-2 c = barred-call _ _ _ _ refl (c .before .before .barred .ensures) (c .
 
 on-of-requires : tie.Need-on-of-requires Inv-loop μ-loop
 unfolding blockedAs
-on-of-requires c κs = shut-passes _ (fine c)
+on-of-requires c κs = (shut-passes _ (fine c), looks (c .before .before .before))
 
 refused-requires-2 : tie.Need-refused-requires-2 Inv-loop μ-loop
 refused-requires-2 c κs = search needs
@@ -91,7 +107,7 @@ returns-3 c =
     let t = c .before in
     let o = t .before in
     let e = o .before in
-    let z = e .before .before .before in
+    let z = e .before .before .before .before .before .before .before in
     let v = z .before in
     let a = v .before .args in
     let f = fine e in
@@ -99,24 +115,27 @@ returns-3 c =
     (on-refused _ (shut-free _ f) (a .note) (a .velocity) (a .built) (c .refused2 .result) (off-is _ _ _ (v .velocity-of .ensures) (z .if1 .left)) _ (v .velocity-of .ensures) _ (o .on-of .ensures) (t .if3 .taken)
     (c .refused2 .ensures ∙ ap (λ (s : Instrument). refusedAs s 8) (sym (shut _ f))))
 
+held-on-requires : tie.Need-held-on-requires Inv-loop μ-loop
+held-on-requires c κs = search needs
+
 mul-changed : tie.Need-mul-changed Inv-loop μ-loop
-mul-changed c = let n = few (c .before .before) in omega arith
+mul-changed c = let n = few (c .before .before .before .before) in omega arith
 
 element-copy-out-changed : tie.Need-element-copy-out-changed Inv-loop μ-loop
-element-copy-out-changed c = let n = few (c .before .before) in omega arith
+element-copy-out-changed c = let n = few (c .before .before .before .before) in omega arith
 
 changed-requires : tie.Need-changed-requires Inv-loop μ-loop
 changed-requires c κs = search needs
 
-mul-t28 : tie.Need-mul-t28 Inv-loop μ-loop
-mul-t28 c = let n = few (c .before .before .before .before) in omega arith
+mul-t34 : tie.Need-mul-t34 Inv-loop μ-loop
+mul-t34 c = let n = few (c .before .before .before .before .before .before) in omega arith
 
 element-set-from-self : tie.Need-element-set-from-self Inv-loop μ-loop
-element-set-from-self c = let n = few (c .before .before .before .before) in omega arith
+element-set-from-self c = let n = few (c .before .before .before .before .before .before) in omega arith
 
 add-i : tie.Need-add-i Inv-loop μ-loop
 add-i c =
-    let o = c .before .before .before in
+    let o = c .before .before .before .before .before in
     let n = few o in
     let w = o .on-of .ensures .within in
     omega (arith, n, w)
@@ -125,8 +144,8 @@ loop-holds : tie.Need-loop-holds Inv-loop μ-loop
 unfolding placedAs blockedAs
 loop-holds c =
     let j = c .before in
-    let o = j .before .before in
-    let s = o .before .before .before .before .before .before in
+    let o = j .before .before .before .before in
+    let s = o .before .before .before .before .before .before .before .before .before .before in
     let u = changes j in
     let n = few o in
     let k = same-count (withFrames (s .args .t1) 0) (o .on-of .result) (j .if4 .self) u (let lv = voices-long (s .args .t1) (s .good .0) in omega arith) in
@@ -138,11 +157,11 @@ mul-self c = let b = c .before in let h = b .loop .inv .1 in let e = b .loop .in
 element-copy-out-self : tie.Need-element-copy-out-self Inv-loop μ-loop
 element-copy-out-self c = let b = c .before in let h = b .loop .inv .1 in let e = b .loop .inv .0 in omega (arith, h, e)
 
-sub-t36 : tie.Need-sub-t36 Inv-loop μ-loop
-sub-t36 c = let b = c .before .before in let h = b .loop .inv .4 .behind in omega (arith, h)
+sub-t42 : tie.Need-sub-t42 Inv-loop μ-loop
+sub-t42 c = let b = c .before .before in let h = b .loop .inv .4 .behind in omega (arith, h)
 
-mul-t37 : tie.Need-mul-t37 Inv-loop μ-loop
-mul-t37 c = let b = c .before .before in let h = b .loop .inv .1 in let e = b .loop .inv .0 in omega (arith, h, e)
+mul-t43 : tie.Need-mul-t43 Inv-loop μ-loop
+mul-t43 c = let b = c .before .before in let h = b .loop .inv .1 in let e = b .loop .inv .0 in omega (arith, h, e)
 
 element-set-from-self-2 : tie.Need-element-set-from-self-2 Inv-loop μ-loop
 element-set-from-self-2 c = let b = c .before .before in let h = b .loop .inv .1 in let e = b .loop .inv .0 in omega (arith, h, e)
@@ -165,26 +184,26 @@ new-voice-requires : tie.Need-new-voice-requires Inv-loop μ-loop
 new-voice-requires c κs = search needs
 
 -- one voice more is at least one
-grows : (t : tie.Then5 Inv-loop μ-loop) → 1 ≤ t .before .before .before .before .before .before .on-of .result .count
+grows : (t : tie.Then5 Inv-loop μ-loop) → 1 ≤ t .before .before .before .before .before .before .before .before .on-of .result .count
 grows t =
-    let o = t .before .before .before .before .before .before in
+    let o = t .before .before .before .before .before .before .before .before in
     let e = rw (t .if5 .taken) at (o .on-of .ensures .size) in
     omega (arith, e)
 
 sub-v : tie.Need-sub-v Inv-loop μ-loop
-sub-v c = let n = grows (c .before .before .before) in omega (arith, n)
+sub-v c = let n = grows (c .before .before) in omega (arith, n)
 
 mul-v : tie.Need-mul-v Inv-loop μ-loop
 mul-v c =
-    let o = c .before .before .before .before .before .before .before .before .before in
+    let o = c .before .before .before .before .before .before .before .before .before .before in
     let r = o .on-of .ensures .room in
     omega (arith, r)
 
 element-set-from-v : tie.Need-element-set-from-v Inv-loop μ-loop
 element-set-from-v c =
-    let o = c .before .before .before .before .before .before .before .before .before in
+    let o = c .before .before .before .before .before .before .before .before .before .before in
     let r = o .on-of .ensures .room in
-    let n = grows (c .before .before .before) in
+    let n = grows (c .before .before) in
     omega (arith, r, n)
 
 settled-requires : tie.Need-settled-requires Inv-loop μ-loop
@@ -196,9 +215,10 @@ returns-4 c =
     let q = c .before in
     let b = q .before .before in
     let j = b .before .before in
-    let o = j .before .before in
+    let h = j .before in
+    let o = j .before .before .before .before in
     let e = o .before in
-    let z = e .before .before .before in
+    let z = e .before .before .before .before .before .before .before in
     let v = z .before in
     let s = v .before in
     let x = withFrames (s .args .t1) 0 in
@@ -215,16 +235,17 @@ returns-4 c =
     let room : x .«voice_count» ≤ length (x .voices) = omega arith in
     let size : length (t .voices) ≡ 64 = w .4 .pass .size ∙ w .2 in
     of-shut _ (fine e) _ (c .settled .result)
-    (on-done x f (s .args .note) (s .args .velocity) (s .args .built) (c .settled .result) (off-is _ _ _ (v .velocity-of .ensures) (z .if1 .left)) _ (v .velocity-of .ensures) on a (j .before .if3 .left)
+    (on-done x f (s .args .note) (s .args .velocity) (s .args .built) (c .settled .result) (off-is _ _ _ (v .velocity-of .ensures) (z .if1 .left)) _ (v .velocity-of .ensures) on a (h .before .before .if3 .left)
     (⊎-elim
     (λ y.
-    let ws = set (t .voices) (on .count - 1) (y .2 .result) in
-    let new = y .2 .ensures (view x) (subst (λ (d : InstrumentDesign). isAccepted d ≡ true) (sym (ap (λ (y : Instrument). y .design) all)) (parts-of x lv (held-long (s .args .t1) (s .good .0)) (f .formed) .design)) (sym (ap (λ (y : Instrument). y .design) all)) (sym (ap (λ (y : Instrument). y .bend) all)) (sym (ap (λ (y : Instrument). y .brightness) all)) (sym (ap (λ (y : Instrument). y .«next_handle») all)) in
-    rw (c .settled .ensures ∙ ap (answeredAs (on .reply)) (carried x (j .if4 .self) t (q .if5 .self) (t .voices) ws (j .if4 .self .voices) on (u .rest) (w .3) (y .4)))
-    (a .more (j .before .if3 .left) (y .0 .taken) (y .2 .result) ws (new ∙ ap (λ (d : InstrumentDesign). record { voice = newVoice (view x) (s .args .note) (v .velocity-of .result); count = copiesOf d }) (ap (λ (y : Instrument). y .design) all)) (edited-more x on (j .if4 .self) u room t (b .loop .i) (w .4) end (y .2 .result) size (a .room) (a .size) (y .0 .taken))))
+    let ws = set (t .voices) (on .count - 1) (y .1 .result) in
+    let new = y .1 .ensures (view x) (parts-of x lv (held-long (s .args .t1) (s .good .0)) (f .formed) .design) refl (sym (ap (λ (y : Instrument). y .bend) all)) (sym (ap (λ (y : Instrument). y .brightness) all)) refl in
+    rw (c .settled .ensures ∙ ap (answeredAs (on .reply)) (carried x (j .if4 .self) t (q .if5 .self) (t .voices) ws (j .if4 .self .voices) on (h .held-on .result) (u .rest) (w .3) (y .3)))
+    (a .more (h .before .before .if3 .left) (y .0 .taken) (h .held-on .result) (h .held-on .ensures) (y .1 .result) ws new
+    (edited-more x on (j .if4 .self) u room t (b .loop .i) (w .4) end (y .1 .result) size (a .room) (a .size) (y .0 .taken))))
     (λ y.
-    rw (c .settled .ensures ∙ ap (answeredAs (on .reply)) (carried x (j .if4 .self) t (q .if5 .self) (t .voices) (t .voices) (j .if4 .self .voices) on (u .rest) (w .3) (y .1)))
-    (a .same (j .before .if3 .left) (y .0 .left) (t .voices) (edited-same x on (j .if4 .self) u room t (b .loop .i) (w .4) end (a .size) (y .0 .left))))
+    rw (c .settled .ensures ∙ ap (answeredAs (on .reply)) (carried x (j .if4 .self) t (q .if5 .self) (t .voices) (t .voices) (j .if4 .self .voices) on (h .held-on .result) (u .rest) (w .3) (y .1)))
+    (a .same (h .before .before .if3 .left) (y .0 .left) (h .held-on .result) (h .held-on .ensures) (t .voices) (edited-same x on (j .if4 .self) u room t (b .loop .i) (w .4) end (a .size) (y .0 .left))))
     (q .if5 .came)))
 
 pub note-on-spec : {M : Type 1} → statement M
@@ -236,24 +257,28 @@ note-on-spec =
     velocity-of-requires
     note-off-requires
     returns
-    well-formed-requires
+    copies-requires
+    cast-survey-of
+    survey-of-requires
+    formed-by-requires
     barred-requires
     refused-requires
     returns-2
     on-of-requires
     refused-requires-2
     returns-3
+    held-on-requires
     mul-changed
     element-copy-out-changed
     changed-requires
-    mul-t28
+    mul-t34
     element-set-from-self
     add-i
     loop-holds
     mul-self
     element-copy-out-self
-    sub-t36
-    mul-t37
+    sub-t42
+    mul-t43
     element-set-from-self-2
     add-i-2
     loop-less
