@@ -43,11 +43,12 @@ fn voice(sum: u64, v: Voice) -> u64 {
 
 // The voices of a state, each with its first copy.
 pub fn table(s: Instrument) -> u64 {
-    let n = smaller(s.voice_count, 64);
+    let t = s.table;
+    let n = smaller(t.count, 64);
     let mut sum = n as u64;
     let mut i: usize = 0;
     while i < n {
-        sum = voice(sum, s.voices[i]);
+        sum = voice(sum, t.voices[i]);
         i += 1;
     }
     sum

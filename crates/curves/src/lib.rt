@@ -6,7 +6,8 @@ ghost use mathlib.Core.List.{map};
 ghost use Prim.Native.Nat.{_+_, _*_, _≤_, _<_};
 ghost use lib.ListN.{length, take, replicate};
 ghost use Rattle.stream.specs.Pitch.{glideStep, stepped, heard as heardOf, GlidedOver};
-ghost use Rattle.curves.specs.Glides.{column, GlidedCopies, StandAs, StandsAs, GlidedVoice, WrittenVoice, HoldsAs, headOf, withHead, MovesAs, eight, GlidedHeads};
+ghost use Rattle.curves.specs.Glides.{column, GlidedCopies, GlidedVoice, StandsAs, StandingCurve};
+use lists::fills;
 use lists::smaller;
 use stream::UnisonCopy;
 use voice::Voice;
@@ -99,68 +100,6 @@ fn glide_four(copies: [UnisonCopy; 4], n: usize, curve: &mut [f32]) -> [UnisonCo
     cs
 }
 
-fn step_eight(cs: [UnisonCopy; 8]) -> [UnisonCopy; 8]
-    ensures { λ r. ⌜ r ≡ map stepped cs ⌝ }
-{
-    [
-        step(cs[0]),
-        step(cs[1]),
-        step(cs[2]),
-        step(cs[3]),
-        step(cs[4]),
-        step(cs[5]),
-        step(cs[6]),
-        step(cs[7]),
-    ]
-}
-
-fn write_eight(cs: [UnisonCopy; 8], n: usize, at: usize, curve: &mut [f32])
-    requires { ⌜ at + n + n + n + n + n + n + n < length (now curve) ⌝ }
-    ensures { λ _. ⌜ now (curve .exit) ≡ column n at (map heardOf cs) (now (curve .entry)) ⌝ }
-{
-    let b = at + n;
-    let c = b + n;
-    let d = c + n;
-    let e = d + n;
-    let f = e + n;
-    let g = f + n;
-    let h = g + n;
-    curve[at] = heard(cs[0]);
-    curve[b] = heard(cs[1]);
-    curve[c] = heard(cs[2]);
-    curve[d] = heard(cs[3]);
-    curve[e] = heard(cs[4]);
-    curve[f] = heard(cs[5]);
-    curve[g] = heard(cs[6]);
-    curve[h] = heard(cs[7]);
-}
-
-// The same of eight: twice as many sums go on at once.
-fn glide_eight(copies: [UnisonCopy; 8], n: usize, curve: &mut [f32]) -> [UnisonCopy; 8]
-    requires { ⌜ n * 8 ≡ length (now curve) ⌝ }
-    ensures { λ r. ⌜ GlidedCopies n copies r (now (curve .exit)) ⌝ }
-{
-    let mut cs = copies;
-    let mut i: usize = 0;
-    while i < n {
-        let later = step_eight(cs);
-        write_eight(later, n, i, curve);
-        cs = later;
-        i += 1;
-    }
-    cs
-}
-
-// Whether eight copies go together: the array is full, and the first of them moves.
-fn abreast(count: usize, c: UnisonCopy) -> bool
-    ensures { λ r. ⌜ (r ≡ true → count ≡ 8) ⌝ }
-{
-    if count != 8 {
-        return false;
-    }
-    !steady(c)
-}
-
 // Whether a copy goes by itself: too few are left, or its pitch stands.
 fn alone(left: usize, c: UnisonCopy) -> bool
     ensures { λ r. ⌜ (r ≡ false → 4 ≤ left) ⌝ }
@@ -181,9 +120,6 @@ fn glide_copies(
     requires { ⌜ frames * length (take count copies) ≡ length (now curve) ⌝ }
     ensures { λ r. ⌜ GlidedCopies frames (take count copies) (take count r) (now (curve .exit)) ⌝ }
 {
-    if abreast(count, copies[0]) {
-        return glide_eight(copies, frames, curve);
-    }
     let n = smaller(count, 8);
     let mut cs = copies;
     let mut at: usize = 0;
@@ -213,7 +149,7 @@ fn glide_copies(
 pub fn glide_voice(v: Voice, frames: usize, curve: &mut [f32]) -> Voice
     ensures { λ r. ⌜ GlidedVoice frames v r (now (curve .entry)) (now (curve .exit)) ⌝ }
 {
-    if !voices::fills(frames, v.copies_shown(), curve.len()) {
+    if !fills(frames, v.copies_shown(), curve.len()) {
         return v;
     }
     let copies = v.copies;
@@ -223,14 +159,14 @@ pub fn glide_voice(v: Voice, frames: usize, curve: &mut [f32]) -> Voice
     w
 }
 
-// Whether no copy moves.
-fn copies_stand(copies: [UnisonCopy; 8], count: usize) -> bool
-    ensures { λ r. ⌜ StandAs (take count copies) r ⌝ }
+// Whether the voice is the same later.
+pub fn stands(v: Voice) -> bool
+    ensures { λ r. ⌜ StandsAs v r ⌝ }
 {
-    let n = smaller(count, 8);
+    let n = v.copies_shown();
     let mut j: usize = 0;
     while j < n {
-        if !steady(copies[j]) {
+        if !steady(v.copies[j]) {
             return false;
         }
         j += 1;
@@ -238,100 +174,20 @@ fn copies_stand(copies: [UnisonCopy; 8], count: usize) -> bool
     true
 }
 
-// Whether the voice is the same later.
-fn stands(v: Voice) -> bool
-    ensures { λ r. ⌜ StandsAs v r ⌝ }
+// One number of each copy, in every place of its part: the numbers of a voice that stands. A curve of another size is left as it is.
+pub fn write_standing(v: Voice, frames: usize, curve: &mut [f32])
+    ensures { λ _. ⌜ StandingCurve frames v (now (curve .entry)) (now (curve .exit)) ⌝ }
 {
-    // Most voices have one copy: no pass over the array.
-    if v.copy_count == 1 {
-        return steady(v.copies[0]);
-    }
-    let copies = v.copies;
-    copies_stand(copies, v.copy_count)
-}
-
-// The numbers of a voice that stands: it need not be put back. A curve of another size is left as it is.
-fn write_voice(v: Voice, frames: usize, curve: &mut [f32])
-    ensures { λ _. ⌜ WrittenVoice frames v (now (curve .entry)) (now (curve .exit)) ⌝ }
-{
-    if v.copy_count == 1 {
-        if curve.len() == frames {
-            glide_one(v.copies[0], curve);
-        }
+    let n = v.copies_shown();
+    if !fills(frames, n, curve.len()) {
         return;
     }
-    if voices::fills(frames, v.copies_shown(), curve.len()) {
-        let copies = v.copies;
-        glide_copies(copies, v.copy_count, frames, curve);
+    let mut at: usize = 0;
+    let mut j: usize = 0;
+    while j < n {
+        let end = at + frames;
+        hold(heard(v.copies[j]), &mut curve[at..end]);
+        at = end;
+        j += 1;
     }
-}
-
-// A voice that is the same later: its numbers are written, and it need not be put back. Of another voice nothing is written.
-pub fn hold_voice(v: Voice, frames: usize, curve: &mut [f32]) -> bool
-    ensures { λ r. ⌜ HoldsAs frames v (now (curve .entry)) (now (curve .exit)) r ⌝ }
-{
-    if !stands(v) {
-        return false;
-    }
-    write_voice(v, frames, curve);
-    true
-}
-
-// The first copy of a voice.
-fn head(v: Voice) -> UnisonCopy
-    ensures { λ r. ⌜ r ≡ headOf v ⌝ }
-{
-    v.copies[0]
-}
-
-// The voice with another first copy.
-pub fn with_head(mut v: Voice, copy: UnisonCopy) -> Voice
-    ensures { λ r. ⌜ r ≡ withHead v copy ⌝ }
-{
-    v.copies[0] = copy;
-    v
-}
-
-// Whether the voice has one copy, and it moves.
-pub fn moves_alone(v: Voice) -> bool
-    ensures { λ r. ⌜ MovesAs v r ⌝ }
-{
-    if v.copy_count != 1 {
-        return false;
-    }
-    !steady(head(v))
-}
-
-// The first copies of eight voices.
-fn heads(four: [Voice; 4], three: [Voice; 3], last: Voice) -> [UnisonCopy; 8]
-    ensures { λ r. ⌜ r ≡ map headOf (eight four three last) ⌝ }
-{
-    [
-        head(four[0]),
-        head(four[1]),
-        head(four[2]),
-        head(four[3]),
-        head(three[0]),
-        head(three[1]),
-        head(three[2]),
-        head(last),
-    ]
-}
-
-// The first copies of eight voices `frames` samples later; they fill the curve, one after the other. A curve of another size is left
-// as it is. Whole voices are slow to move, so Plan puts the copies back by itself.
-pub fn glide_heads(
-    four: [Voice; 4],
-    three: [Voice; 3],
-    last: Voice,
-    frames: usize,
-    curve: &mut [f32],
-) -> [UnisonCopy; 8]
-    ensures { λ r. ⌜ GlidedHeads frames (map headOf (eight four three last)) r (now (curve .entry)) (now (curve .exit)) ⌝ }
-{
-    let copies = heads(four, three, last);
-    if !voices::fills(frames, 8, curve.len()) {
-        return copies;
-    }
-    glide_eight(copies, frames, curve)
 }

@@ -126,10 +126,11 @@ impl EnvGen {
     }
 
     // The attack starts from the present level.
-    pub fn gate_on(self) -> EnvGen
+    pub fn gate_on(mut self) -> EnvGen
         ensures { λ e. ⌜ e ≡ gatedOn self ⌝ }
     {
-        self.at(Stage::Attack, self.level)
+        self = self.at(Stage::Attack, self.level);
+        self
     }
 
     // The release runs down from the present level; an idle envelope stays as it is.
@@ -179,17 +180,18 @@ impl EnvGen {
     }
 
     // One sample further. The record's level is the sample.
-    pub fn tick(self) -> EnvGen
+    pub fn tick(mut self) -> EnvGen
         ensures { λ e. ⌜ e ≡ ticked self ⌝ }
     {
         let stage = self.stage;
         match stage {
-            Stage::Idle => self.at(Stage::Idle, 0.0),
-            Stage::Attack => self.tick_attack(),
-            Stage::Decay => self.tick_decay(),
-            Stage::Sustain => self.at(Stage::Sustain, self.s),
-            Stage::Release => self.tick_release(),
+            Stage::Idle => self.level = 0.0,
+            Stage::Attack => self = self.tick_attack(),
+            Stage::Decay => self = self.tick_decay(),
+            Stage::Sustain => self.level = self.s,
+            Stage::Release => self = self.tick_release(),
         }
+        self
     }
 
     fn tick_attack(self) -> EnvGen

@@ -103,16 +103,32 @@ designs : Bool
 unfolding floats rateFits allFinite lfoActive modulated modulationFinite numbersFit floatsFit designReply isAccepted copiesOf
 designs = true
 
+voices : Bool
+unfolding envelopes copies designs withVoice releasedVoice killedVoice withSustained aimedAt struckAgain withCopies aged agedVoice
+voices = true
+
 tables : Bool
-unfolding envelopes copies designs placed blocked withVoice releasedVoice killedVoice withSustained aimedAt struckAgain withCopies aged agedVoice firstCopies newCopies newEnvelope newVoice isEnded quieter isPlace quietestSounding quietest firstSounding placeOf
+unfolding voices firstCopies newCopies newEnvelope newVoice isEnded quieter isPlace quietestSounding quietest firstSounding placeOf placed blocked
 tables = true
 
-notes : Bool
-unfolding tables newestOf polyOff heldWithout notHeld noneHeld newestHeld fallenBack monoOff noteOffOf velocityOf isOff full afterKill killedHandle crowded afterTaking takenHandle startedNote newNote heldWith keptVoice keptNote goesOn monoOn noteOnOf newHandleDue
-notes = true
+offs : Bool
+unfolding tables newestOf polyOff heldWithout notHeld noneHeld newestHeld fallenBack monoOff noteOffOf
+offs = true
+
+ons : Bool
+unfolding offs velocityOf isOff full afterKill killedHandle crowded afterTaking takenHandle startedNote newNote newHandleDue noteOnOf
+ons = true
+
+monos : Bool
+unfolding ons heldWith keptVoice keptNote goesOn monoOn
+monos = true
+
+blocks : Bool
+unfolding monos framesFit releaseOf modulatedBy opened planOf played remaining endedHandles report mixOf
+blocks = true
 
 calls : Bool
-unfolding notes framesFit blockFits modeFits wellFormed releaseOf modulatedBy opened planOf played remaining endedHandles report mixOf noBlock blockOpen blockMissing handlesSpent refusal step fresh startOf
+unfolding blocks blockFits modeFits wellFormed noBlock blockOpen blockMissing handlesSpent refusal step fresh startOf
 calls = true
 
 -- ---- E1

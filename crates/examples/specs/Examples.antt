@@ -20,7 +20,7 @@ use Rattle.design.specs.declared.PlayMode.the-variants.{Poly, Mono}
 use Rattle.design.specs.declared.DesignReply.the-variants.{Accepted}
 use Rattle.design.specs.Accepted.{isAccepted}
 use Rattle.model.specs.Types.{Voice, Call, Reply}
-use Rattle.model.specs.Types.{Call.noteOn, Call.noteOff, Call.release, Call.plan, Call.mix}
+use Rattle.model.specs.Types.{Call.noteOn, Call.control, Call.plan, Call.mix, Control.noteOff, Control.release}
 use Rattle.model.specs.Types.{Reply.started, Reply.kept as keeps, Reply.off, Reply.released, Reply.planned, Reply.mixed}
 use Rattle.model.specs.Step.{step}
 use Rattle.model.specs.Start.{fresh, startOf}
@@ -119,7 +119,7 @@ pub record WorkedExamples : Type 0 where
       (row 1 60 false false audible ∷ [])
   -- E7 "r=0: released voice ends at the next frame"
   pub e7 : (x y : Float) → Plays (designed Poly half)
-      (noteOn 60 one true ∷ (frames (x ∷ []) ++ (release 1 ∷ frames (y ∷ []))))
+      (noteOn 60 one true ∷ (frames (x ∷ []) ++ (control (release 1) ∷ frames (y ∷ []))))
       (started 1 0 0 ∷ (framesKept 1 ++ (released true ∷ frameEnding 1)))
       []
   -- E8 "pitch 1, target 2, glide 0.5, bend 2: 3, 3.5"
@@ -130,7 +130,7 @@ pub record WorkedExamples : Type 0 where
   pub e9 : (newCopy 0 4 one .l ≡ half) × (newCopy 0 4 one .r ≡ +0)
   -- E10 "Mono 60, 64, off 64: handle 1 plays 60", legato or not
   pub e10 : (legato : Bool) → Plays (designed (Mono legato) half)
-      (noteOn 60 one true ∷ noteOn 64 one true ∷ noteOff 64 ∷ [])
+      (noteOn 60 one true ∷ noteOn 64 one true ∷ control (noteOff 64) ∷ [])
       (started 1 0 0 ∷ keeps 1 ∷ off true ∷ [])
       (row 1 60 false false +0 ∷ [])
   -- E11 "90 3C 40 F8 3E 40: two ons"

@@ -3,7 +3,7 @@
 ghost use mathlib.Core.Path.{_≡_};
 ghost use mathlib.Core.List.{List};
 ghost use Prim.Native.Nat.{ℕ};
-ghost use Rattle.model.specs.Types.{Call};
+ghost use Rattle.model.specs.Types.{Control, Call};
 ghost use Rattle.model.specs.Queries.{isActive, activeVoices};
 ghost use Rattle.instrument.specs.Calls.{replyOf};
 ghost use Rattle.instrument.specs.Asked.{answerOf};
@@ -205,7 +205,7 @@ pub extern "C" fn cirstumbe_note_on(
 
 #[no_mangle]
 pub extern "C" fn cirstumbe_note_off(h: HostState, note: u8) -> HostOutcome
-    ensures { λ r. ⌜ HostCallAs h (Call.noteOff note) r ⌝ }
+    ensures { λ r. ⌜ HostCallAs h (Call.control (Control.noteOff note)) r ⌝ }
 {
     if !wire::numbers::numbered(h) {
         return unread(h);
@@ -216,7 +216,7 @@ pub extern "C" fn cirstumbe_note_off(h: HostState, note: u8) -> HostOutcome
 // `down` is 0, or any other number for yes.
 #[no_mangle]
 pub extern "C" fn cirstumbe_set_sustain(h: HostState, down: u32) -> HostOutcome
-    ensures { λ r. ⌜ HostCallAs h (Call.pedal (flagOf down)) r ⌝ }
+    ensures { λ r. ⌜ HostCallAs h (Call.control (Control.pedal (flagOf down))) r ⌝ }
 {
     if !wire::numbers::numbered(h) {
         return unread(h);
@@ -226,7 +226,7 @@ pub extern "C" fn cirstumbe_set_sustain(h: HostState, down: u32) -> HostOutcome
 
 #[no_mangle]
 pub extern "C" fn cirstumbe_set_bend(h: HostState, factor: f32) -> HostOutcome
-    ensures { λ r. ⌜ HostCallAs h (Call.bend factor) r ⌝ }
+    ensures { λ r. ⌜ HostCallAs h (Call.control (Control.bend factor)) r ⌝ }
 {
     if !wire::numbers::numbered(h) {
         return unread(h);
@@ -236,7 +236,7 @@ pub extern "C" fn cirstumbe_set_bend(h: HostState, factor: f32) -> HostOutcome
 
 #[no_mangle]
 pub extern "C" fn cirstumbe_set_brightness(h: HostState, scale: f32) -> HostOutcome
-    ensures { λ r. ⌜ HostCallAs h (Call.brightness scale) r ⌝ }
+    ensures { λ r. ⌜ HostCallAs h (Call.control (Control.brightness scale)) r ⌝ }
 {
     if !wire::numbers::numbered(h) {
         return unread(h);
@@ -246,7 +246,7 @@ pub extern "C" fn cirstumbe_set_brightness(h: HostState, scale: f32) -> HostOutc
 
 #[no_mangle]
 pub extern "C" fn cirstumbe_release(h: HostState, handle: u64) -> HostOutcome
-    ensures { λ r. ⌜ HostCallAs h (Call.release handle) r ⌝ }
+    ensures { λ r. ⌜ HostCallAs h (Call.control (Control.release handle)) r ⌝ }
 {
     if !wire::numbers::numbered(h) {
         return unread(h);
@@ -256,7 +256,7 @@ pub extern "C" fn cirstumbe_release(h: HostState, handle: u64) -> HostOutcome
 
 #[no_mangle]
 pub extern "C" fn cirstumbe_all_notes_off(h: HostState) -> HostOutcome
-    ensures { λ r. ⌜ HostCallAs h Call.allOff r ⌝ }
+    ensures { λ r. ⌜ HostCallAs h (Call.control Control.allOff) r ⌝ }
 {
     if !wire::numbers::numbered(h) {
         return unread(h);

@@ -1,74 +1,37 @@
 -- From the checks and the parts of a call to what the call promises.
-use mathlib.Core.Path.{_≡_, refl, ap, sym, subst, _∙_}
-use mathlib.Core.Bool.{Bool, true, false, not, _&&_, and-true, and-false}
-use mathlib.Core.List.{List}
+use mathlib.Core.Path.{_≡_, refl, ap, sym, _∙_}
+use mathlib.Core.Bool.{Bool, true, false, not, _&&_}
+use mathlib.Core.List.{List, map}
 use Prim.Native.Nat.{ℕ, _≤_}
 use native.Mathlib.Omega.{arith}
 use borrow.Author.Tests.{leb-true, le-leb, eq-eqb, ne-eqb, eqb-true}
 use lib.Dec.{leb, eqb}
+use lib.Ieee.{Float}
+use lib.ListN.{length, length-map, length-set, length-take}
 use Rattle.lists.specs.Choose.{both, cond-true, cond-false}
-use Rattle.design.specs.declared.PlayMode.{PlayMode}
-use Rattle.design.specs.declared.PlayMode.the-variants.{Poly, Mono}
 use Rattle.model.specs.Types as M
-use Rattle.model.specs.Changes.{placed}
-use Rattle.model.specs.Formed.{wellFormed, blockFits, modeFits}
-use Rattle.model.specs.Step.{isMix, noBlock, blockOpen, blockMissing, framesOutside, lengthWrong, handleDue, handlesSpent, refusal, accepted, step}
-use Rattle.voices.specs.View.{seenFirst, voicesOf, inRoom}
-use Rattle.voice.specs.declared.Voice.{Voice}
-use Rattle.formed.specs.Held.{heldFirst}
-use Rattle.instrument.specs.View.{view, counted, formed}
-use Rattle.instrument.specs.Calls.{replyOf, refusalOf, replyTo, CallAs, Gives, answeredAs, refusedAs, barredBy, placedAs, blockedAs, withFrames, StepAs}
+use Rattle.model.specs.Changes.{placed, tuned}
+use Rattle.model.specs.Voices.{changed}
+use Rattle.model.specs.Formed.{wellFormed}
+use Rattle.model.specs.Step.{isMix, noBlock, blockOpen, blockMissing, framesOutside, lengthWrong, handlesSpent, refusal, controlled, accepted, step}
+use Rattle.voice.specs.View.{Seen}
+use Rattle.voice.specs.Changes.{onSeen}
+use Rattle.table.specs.View.{seenIn, voicesIn, inRoom, changedAt, Holds}
+use Rattle.table.specs.declared.Table.{Table}
+use Rattle.table.proofs.Changes.{map-seen, changed-seen, room-map, room-set}
+use Rattle.held.specs.View.{heldIn}
+use Rattle.held.specs.declared.Held.{Held}
+use Rattle.instrument.specs.View.{view, roomy, counted, formed}
+use Rattle.instrument.specs.Calls.{replyOf, refusalOf, replyTo, CallAs, Gives, answeredAs, refusedAs, barredIn, barredBy, placedAs, tunedAs, StepAs}
 use Rattle.instrument.specs.declared.Instrument.{Instrument}
-use Rattle.formed.specs.declared.Held.{Held}
-use Rattle.instrument.proofs.Parts.{open-none}
 use Rattle.instrument.specs.declared.Outcome.{Outcome}
 use Rattle.instrument.specs.declared.Reply.{Reply}
 
--- ---- check 1 of a state whose block was taken out
-
-module _ (s : Instrument) (n : ℕ) (z : s .frames ≡ 0) where
-  mode-same : modeFits (view (withFrames s n) .design .mode) (view (withFrames s n)) ≡ modeFits (view s .design .mode) (view s)
-  unfolding view blockedAs modeFits
-  mode-same = by (s .design .mode)
-    where
-      by : (m : PlayMode) → modeFits m (view (withFrames s n)) ≡ modeFits m (view s)
-      by Poly = refl
-      by (Mono legato) = refl
-
-  -- of its block check 1 asks that the frames are within the limits, and no more
-  pub reopened : formed (withFrames s n) ≡ (formed s && blockFits (s .design) n)
-  unfolding formed counted wellFormed view blockedAs
-  reopened = by (blockFits (s .design) n) refl
-    where
-      shut : blockFits (s .design) (s .frames) ≡ true
-      shut = sym (open-none (s .design) (s .frames) z)
-
-      by : (b : Bool) → blockFits (s .design) n ≡ b → formed (withFrames s n) ≡ (formed s && blockFits (s .design) n)
-      by true e = rw (e, shut, mode-same, and-true)
-      by false e = simp (e, and-false)
-
-  pub formed-not : formed s ≡ false → formed (withFrames s n) ≡ false
-  formed-not e = reopened ∙ rw e
-
-  pub formed-unfit : blockFits (s .design) n ≡ false → formed (withFrames s n) ≡ false
-  formed-unfit e = reopened ∙ rw (e, and-false)
-
-  pub formed-fit : formed s ≡ true → blockFits (s .design) n ≡ true → formed (withFrames s n) ≡ true
-  formed-fit e f = reopened ∙ rw (e, f)
-
 -- ---- what bars a call
 
-pub barred-1 : (s : Instrument) → formed s ≡ false → 1 ≡ barredBy s
-unfolding barredBy
-barred-1 s e = sym (cond-false _ _ _ e)
-
-pub barred-0 : (s : Instrument) → formed s ≡ true → s .frames ≡ 0 → 0 ≡ barredBy s
-unfolding barredBy
-barred-0 s e f = sym (cond-true _ _ _ e ∙ cond-true _ _ _ (eq-eqb (s .frames) 0 f))
-
-pub barred-5 : (s : Instrument) → formed s ≡ true → (s .frames ≡ 0 → ⊥) → 5 ≡ barredBy s
-unfolding barredBy
-barred-5 s e f = sym (cond-true _ _ _ e ∙ cond-false _ _ _ (ne-eqb (s .frames) 0 f))
+-- by the answers of check 1 and of `barred`
+pub barred-by : (s : Instrument) (b : Bool) (n : ℕ) → b ≡ formed s → n ≡ barredIn b (s .frames) → n ≡ barredBy s
+barred-by s b n e f = f ∙ ap (λ (x : Bool). barredIn x (s .frames)) e
 
 -- what not being barred says
 pub record Free (s : Instrument) : Type 0 where
@@ -78,7 +41,7 @@ pub record Free (s : Instrument) : Type 0 where
   pub closed : s .frames ≡ 0
 
 pub free : (s : Instrument) → barredBy s ≡ 0 → Free s
-unfolding barredBy formed
+unfolding barredIn formed
 free s e = by (formed s) refl (eqb (s .frames) 0) refl
   where
     by : (a : Bool) → formed s ≡ a → (b : Bool) → eqb (s .frames) 0 ≡ b → Free s
@@ -86,26 +49,10 @@ free s e = by (formed s) refl (eqb (s .frames) 0) refl
     by true p false q = let z : _≡_ {A = ℕ} 5 0 = rw (p, q) at e in let n : ⊥ = omega arith in absurd n
     by false p b q = let z : _≡_ {A = ℕ} 1 0 = rw p at e in let n : ⊥ = omega arith in absurd n
 
--- a free state has no block: with its frames taken out it is the same
-module _ (x : Instrument) (f : Free x) where
-  pub shut : withFrames x 0 ≡ x
-  unfolding blockedAs
-  shut = ap (withFrames x) (sym (f .closed))
-
-  pub shut-free : Free (withFrames x 0)
-  shut-free = subst Free (sym shut) f
-
-  pub shut-passes : barredBy (withFrames x 0) ≡ 0
-  unfolding blockedAs
-  shut-passes = sym (barred-0 _ (shut-free .formed) refl)
-
-  pub of-shut : (c : M.Call) (r : Outcome) → CallAs (withFrames x 0) c r → CallAs x c r
-  of-shut c r = subst (λ (s : Instrument). CallAs s c r) shut
-
 module _ (s : Instrument) (c : M.Call) where
   -- a state that bars the call gives its number
   pub bars : isMix c ≡ false → (barredBy s ≡ 0 → ⊥) → refusalOf s c ≡ barredBy s
-  unfolding barredBy refusalOf refusal formed blockOpen noBlock view
+  unfolding barredIn refusalOf refusal formed blockOpen noBlock view
   bars m n = by (counted s) refl (wellFormed (view s)) refl (eqb (s .frames) 0) refl
     where
       by : (a : Bool) → counted s ≡ a → (b : Bool) → wellFormed (view s) ≡ b → (d : Bool) → eqb (s .frames) 0 ≡ d → refusalOf s c ≡ barredBy s
@@ -170,44 +117,86 @@ module _ (s : Instrument) (c : M.Call) where
 
 -- ---- the next state
 
-module _ (s : Instrument) (vs : List Voice) (count next : ℕ) (sustain : Bool) (held : Held) where
-  pub placed-view : view (placedAs s vs count next sustain held) ≡ placed (view s) (voicesOf (seenFirst count vs)) next sustain (heldFirst (held .count) (held .notes))
-  unfolding view placedAs placed
-  placed-view = refl
-
-  pub placed-room : count ≤ 64 → held .count ≤ 256 → inRoom (seenFirst count vs) ≡ true → counted (placedAs s vs count next sustain held) ≡ true
-  unfolding counted placedAs
-  placed-room a b d = rw (le-leb count 64 a, le-leb (held .count) 256 b, d)
-
--- ---- a call that its state bars, one that is free, and the state that follows
-
 pub record Counts (s : Instrument) : Type 0 where
-  pub voices64 : s .«voice_count» ≤ 64
-  pub held256 : s .«held_count» ≤ 256
-  pub room : inRoom (seenFirst (s .«voice_count») (s .voices)) ≡ true
+  pub voices64 : s .table .count ≤ 64
+  pub held256 : s .held .count ≤ 256
+  pub room : inRoom (seenIn (s .table)) ≡ true
 
 pub counts : (s : Instrument) → counted s ≡ true → Counts s
-unfolding counted
+unfolding counted roomy
 counts s e =
-    let a = both (leb (s .«voice_count») 64) (leb (s .«held_count») 256 && inRoom (seenFirst (s .«voice_count») (s .voices))) e in
-    let b = both (leb (s .«held_count») 256) (inRoom (seenFirst (s .«voice_count») (s .voices))) (a .1) in
+    let a = both (leb (s .table .count) 64) _ e in
+    let b = both (leb (s .held .count) 256) (inRoom (seenIn (s .table))) (a .1) in
     record { voices64 = leb-true _ 64 (a .0); held256 = leb-true _ 256 (b .0); room = b .1 }
+
+pub few-voices : (s : Instrument) → formed s ≡ true → s .table .count ≤ 64
+unfolding formed
+few-voices s e = counts s (both (counted s) (wellFormed (view s)) e .0) .voices64
+
+pub roomy-of : (t : Table) (h : Held) → t .count ≤ 64 → h .count ≤ 256 → inRoom (seenIn t) ≡ true → roomy t h ≡ true
+unfolding roomy
+roomy-of t h a b c = rw (le-leb (t .count) 64 a, le-leb (h .count) 256 b, c)
+
+-- a table in room that stands for these voices
+pub record Stands (vs : List M.Voice) (t : Table) : Type 0 where
+  pub size : t .count ≤ 64
+  pub room : inRoom (seenIn t) ≡ true
+  pub voices : voicesIn t ≡ vs
+
+module _ (s : Instrument) (e : counted s ≡ true) where
+  pub stands-same : Stands (voicesIn (s .table)) (s .table)
+  stands-same = let k = counts s e in record { size = k .voices64; room = k .room; voices = refl }
+
+  few : length (seenIn (s .table)) ≤ 64
+  few = let k = counts s e .voices64 in simp (length-map, length-take) (omega arith)
+
+  pub stands-mapped : (g : M.Voice → M.Voice) (t : Table) → Holds (map (onSeen g) (seenIn (s .table))) t → Stands (map g (voicesIn (s .table))) t
+  stands-mapped g t h =
+      let c = h .count in
+      let f = few in
+      let l : length (map (onSeen g) (seenIn (s .table))) ≡ length (seenIn (s .table)) = length-map (seenIn (s .table)) (onSeen g) in
+      record {
+        size = omega arith;
+        room = ap inRoom (h .seen) ∙ room-map g (seenIn (s .table)) ∙ counts s e .room;
+        voices = ap (map (λ (x : Seen). x .voice)) (h .seen) ∙ map-seen g (seenIn (s .table));
+      }
+
+  pub stands-changed : (g : M.Voice → M.Voice) (k : ℕ) (t : Table) → Holds (changedAt g k (seenIn (s .table))) t → Stands (changed g k (voicesIn (s .table))) t
+  stands-changed g k t h =
+      let c = h .count in
+      let f = few in
+      let l : length (changedAt g k (seenIn (s .table))) ≡ length (seenIn (s .table)) = length-set (seenIn (s .table)) k _ in
+      record {
+        size = omega arith;
+        room = ap inRoom (h .seen) ∙ room-set g k (seenIn (s .table)) ∙ counts s e .room;
+        voices = ap (map (λ (x : Seen). x .voice)) (h .seen) ∙ changed-seen g k (seenIn (s .table));
+      }
+
+-- ---- a call that its state bars, one that is free, and the state that follows
 
 pub barred-call : (s : Instrument) (c : M.Call) (n : ℕ) (r : Outcome) → isMix c ≡ false → n ≡ barredBy s → (n ≡ 0 → ⊥) → r ≡ refusedAs s n → CallAs s c r
 barred-call s c n r m e z q = rw q (refused-call s c n (bars s c m (λ k. z (e ∙ k)) ∙ sym e) z)
 
-pub plain-call : (s : Instrument) (c : M.Call) (r : Outcome) → Free s → isMix c ≡ false → framesOutside (view s) c ≡ false → lengthWrong (view s) c ≡ false → handleDue (view s) c ≡ false
-    → Gives (accepted (view s) c) r → CallAs s c r
+pub control-call : (s : Instrument) (x : M.Control) (r : Outcome) → Free s → Gives (controlled (view s) x) r → CallAs s (M.Call.control x) r
 unfolding handlesSpent
-plain-call s c r f a b d e g = accepted-call s c r (unrefused s c f a b d (rw e)) g
+control-call s x r f g = accepted-call s (M.Call.control x) r (unrefused s (M.Call.control x) f refl refl refl refl) g
 
 -- the state as it was
 pub gives-same : (s : Instrument) (reply : Reply) (o : M.Outcome) (r : Outcome) → Free s → r ≡ answeredAs reply s → replyOf reply ≡ o .reply → view s ≡ o .model → Gives o r
 gives-same s reply o r f q a b = rw q (record { reply = a; inRoom = f .counted; next = b })
 
--- another table, handle, pedal and held notes
-pub gives-placed : (s : Instrument) (vs : List Voice) (count next : ℕ) (sustain : Bool) (held : Held) (reply : Reply) (o : M.Outcome) (r : Outcome)
-    → r ≡ answeredAs reply (placedAs s vs count next sustain held) → count ≤ 64 → held .count ≤ 256 → inRoom (seenFirst count vs) ≡ true → replyOf reply ≡ o .reply
-    → placed (view s) (voicesOf (seenFirst count vs)) next sustain (heldFirst (held .count) (held .notes)) ≡ o .model → Gives o r
-gives-placed s vs count next sustain held reply o r q a b d e f =
-    rw q (record { reply = e; inRoom = placed-room s vs count next sustain held a b d; next = placed-view s vs count next sustain held ∙ f })
+-- another table, next handle, pedal and held notes
+pub gives-placed : (s : Instrument) (vs : List M.Voice) (t : Table) (next : ℕ) (sustain : Bool) (held : Held) (reply : Reply) (o : M.Outcome) (r : Outcome)
+    → r ≡ answeredAs reply (placedAs s t next sustain held) → Stands vs t → held .count ≤ 256 → replyOf reply ≡ o .reply
+    → placed (view s) vs next sustain (heldIn held) ≡ o .model → Gives o r
+unfolding view counted placedAs placed
+gives-placed s vs t next sustain held reply o r q a b e f =
+    rw q (record { reply = e; inRoom = roomy-of t held (a .size) b (a .room); next = rw (a .voices) f })
+
+-- another table, bend and brightness
+pub gives-tuned : (s : Instrument) (vs : List M.Voice) (t : Table) (x y : Float) (reply : Reply) (o : M.Outcome) (r : Outcome)
+    → r ≡ answeredAs reply (tunedAs s t x y) → Stands vs t → counted s ≡ true → replyOf reply ≡ o .reply
+    → tuned (view s) vs x y ≡ o .model → Gives o r
+unfolding view counted tunedAs tuned
+gives-tuned s vs t x y reply o r q a k e f =
+    rw q (record { reply = e; inRoom = roomy-of t (s .held) (a .size) (counts s k .held256) (a .room); next = rw (a .voices) f })

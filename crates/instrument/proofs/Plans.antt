@@ -1,12 +1,12 @@
 -- The ways out of Plan and of its parts.
 use mathlib.Core.Path.{_≡_, refl, ap, sym, _∙_, fun-ext}
-use mathlib.Core.Bool.{Bool, true, false, cond}
+use mathlib.Core.Bool.{Bool, true, false, not, cond}
 use mathlib.Core.List.{List, [], _∷_, map}
 use Prim.Native.Nat.{ℕ, zero, suc, _*_, _≤_, _^_}
 use native.Mathlib.Omega.{arith}
 use native.Mathlib.Nat.{mul-le-mul}
-use borrow.Author.Tests.{leb-true, le-leb, eq-eqb, ne-eqb, eqb-true, not-false}
-use lib.Dec.{T, leb, le→leb}
+use borrow.Author.Tests.{leb-true, le-leb, eq-eqb, ne-eqb, eqb-true, eqb-false, not-false}
+use lib.Dec.{T, leb, eqb, le→leb}
 use lib.Ieee.{Float, binary32, mul, lt, inFloat}
 use lib.IntN.{pos}
 use lib.ListN.{length, length-map}
@@ -30,22 +30,20 @@ use Rattle.model.specs.Step.{noBlock, blockOpen, blockMissing, handlesSpent, re
 use Rattle.model.proofs.Laws.{modulated-copies}
 use Rattle.model.proofs.Refusals.{Passes, passes}
 use Rattle.voice.specs.View.{Seen}
-use Rattle.voices.specs.View.{seenFirst, voicesOf}
+use Rattle.table.specs.View.{seenIn, voicesIn, Holds}
+use Rattle.table.specs.declared.Table.{Table}
+use Rattle.table.proofs.Changes.{map-seen}
 use Rattle.voice.specs.Changes.{copyChanged, voiceChanged, onSeen}
-use Rattle.voice.specs.declared.Voice.{Voice}
 use Rattle.voice.specs.declared.CopyChange.the-variants.{Bend, Wobble}
 use Rattle.voice.specs.declared.VoiceChange.{VoiceChange}
-use Rattle.instrument.specs.View.{view, counted, formed}
-use Rattle.formed.specs.Check.{voiceFits}
-use Rattle.instrument.specs.Calls.{refusalOf, lentOf, answeredAs, refusedAs, barredBy, blockedAs, withFrames}
-use Rattle.instrument.specs.Plans.{PlannedAs, stepOf, phaseOn, wobbleOf, StandsFor}
+use Rattle.instrument.specs.View.{view, roomy, counted}
+use Rattle.instrument.specs.Calls.{refusalOf, lentOf, answeredAs, refusedAs, barredBy, movedAs, blockedAs}
+use Rattle.instrument.specs.Plans.{PlannedAs, planRefusal, stepOf, phaseOn, wobbleOf, StandsFor}
 use Rattle.instrument.specs.declared.Instrument.{Instrument}
 use Rattle.instrument.specs.declared.Outcome.{Outcome}
 use Rattle.instrument.specs.declared.Reply.the-variants.{Planned}
-use Rattle.instrument.proofs.States.{movedAs}
-use Rattle.instrument.proofs.Formed.{tableOf, seen-long, parts-of}
-use Rattle.instrument.proofs.Calls.{Free, free, bars, unrefused, counts, counted-of, refusal-in, refused-call, accepted-call, shut}
-use Rattle.instrument.proofs.Controls.{mapped-room, mapped-voices}
+use Rattle.instrument.proofs.Formed.{table-copies}
+use Rattle.instrument.proofs.Calls.{Free, free, bars, counts, counted-of, refusal-in, refused-call, accepted-call, stands-mapped, roomy-of}
 
 -- ---- what the checks say of the numbers
 
@@ -61,87 +59,51 @@ pub frames-float : (n : ℕ) → n ≤ 1024 → T (inFloat binary32 (pos n))
 unfolding inFloat
 frames-float n h = le→leb n (2 ^ 24) (omega arith)
 
--- voices that all have k copies
-pub copies-even : (p : Seen → Bool) (k : ℕ) → ((x : Seen) → p x ≡ true → length (x .voice .copies) ≡ k) → (l : List Seen) → all p l ≡ true → copiesIn (voicesOf l) ≡ length l * k
-copies-even p k f [] e = omega arith
-copies-even p k f (x ∷ l) e =
-    let a = both (p x) (all p l) e in
-    let d = f x (a .0) in
-    let h = copies-even p k f l (a .1) in
-    omega arith
-
--- as those of a well formed table have the design's
-fits-copies : (next k : ℕ) (x : Seen) → voiceFits next k x ≡ true → length (x .voice .copies) ≡ k
-unfolding voiceFits
-fits-copies next k x e =
-    let b = both (leb (x .count) 8) _ e in
-    let c = both (handleFits next (x .voice)) _ (b .1) in
-    eqb-true (length (x .voice .copies)) k (both (copiesFit k (x .voice)) (stageFits (x .voice)) (c .1) .0)
-
-well-even : (m : M.Model) → wellFormed m ≡ true → all (copiesFit (copiesOf (m .design))) (m .voices) ≡ true
-unfolding wellFormed
-well-even m e =
-    let a = both (isAccepted (m .design)) _ e in
-    let b = both (leb (length (m .voices)) (2 * max m)) _ (a .1) in
-    let c = both (leb (count sounding (m .voices)) (max m)) _ (b .1) in
-    let d = both (leb 1 (m .next)) _ (c .1) in
-    let f = both (distinct (handles (m .voices))) _ (d .1) in
-    let g = both (all (handleFits (m .next)) (m .voices)) _ (f .1) in
-    both (all (copiesFit (copiesOf (m .design))) (m .voices)) _ (g .1) .0
-
--- and so it has after the modulation
-even-same : (f : UnisonCopy → UnisonCopy) (k : ℕ) (vs : List M.Voice) → all (copiesFit k) (map (withCopies f) vs) ≡ all (copiesFit k) vs
-unfolding withCopies withVoice
-even-same f k [] = refl
-even-same f k (v ∷ vs) = rw (length-map (v .copies) f, even-same f k vs)
-
-modulated-even : (m : M.Model) (n : ℕ) (vibrato filter sine : Float) (k : ℕ) → all (copiesFit k) (m .voices) ≡ true → all (copiesFit k) (modulatedBy m n vibrato filter sine .voices) ≡ true
-unfolding modulatedBy applied moved
-modulated-even m n vibrato filter sine k e =
-    chosen (λ (t : M.Model). all (copiesFit k) (t .voices) ≡ true) (modulated (m .design .modulation)) _ _ (λ _. even-same _ k (m .voices) ∙ e) (λ _. e)
-
-pub record Rows (s : Instrument) (rows : ℕ) : Type 0 where
-  pub all : copiesIn (view s .voices) ≡ rows
-  pub most : rows ≤ 512
-
-module _ (s : Instrument) (lv : length (s .voices) ≡ 64) (lh : length (s .held) ≡ 256) (f : formed s ≡ true) where
-  pub rows : (k : ℕ) → k ≡ copiesOf (s .design) → Rows s (s .«voice_count» * k)
-  unfolding view
-  rows k e =
-      let p = parts-of s lv lh f in
-      let n64 : s .«voice_count» ≤ 64 = p .voices64 in
-      let k8 : k ≤ 8 = rw e (copies-most (s .design) (p .design)) in
-      let l = seen-long s (omega arith) in
-      record {
-        all = copies-even _ _ (fits-copies _ _) (tableOf s) (p .fits) ∙ rw (l, e);
-        most = mul-le-mul n64 k8;
-      }
-
-pub product : (n k : ℕ) → n ≤ 1024 → k ≤ 512 → n * k ≤ 524288
-product n k a b = mul-le-mul a b
-
 -- ---- the refusals
 
-module _ (s : Instrument) (n : ℕ) (vibrato filter sine : Float) (curve : List Float) where
+-- the number by the parts that were asked
+module _ (n frames voices : ℕ) (d : InstrumentDesign) (len : ℕ) where
+  pub plan-barred : (n ≡ 0 → ⊥) → n ≡ planRefusal n frames voices d len
+  unfolding planRefusal
+  plan-barred z = sym (cond-false _ _ _ (ne-eqb n 0 z))
+
+  module _ (z : n ≡ 0) where
+    pub plan-4 : framesFit d frames ≡ false → 4 ≡ planRefusal n frames voices d len
+    unfolding planRefusal
+    plan-4 e = rw (eq-eqb n 0 z, e)
+
+    pub plan-0 : framesFit d frames ≡ true → eqb (frames * (voices * copiesOf d)) len ≡ true → 0 ≡ planRefusal n frames voices d len
+    unfolding planRefusal
+    plan-0 e f = rw (eq-eqb n 0 z, e, f)
+
+    pub plan-7 : framesFit d frames ≡ true → eqb (frames * (voices * copiesOf d)) len ≡ false → 7 ≡ planRefusal n frames voices d len
+    unfolding planRefusal
+    plan-7 e f = rw (eq-eqb n 0 z, e, f)
+
+module _ (s : Instrument) (n : ℕ) (vibrato filter sine : Float) (curve : List Float) (lv : length (s .table .voices) ≡ 64) (lh : length (s .held .notes) ≡ 256) where
   abbrev call : M.Call
   call = M.Call.plan n vibrato filter sine curve
 
-  pub number-barred : (k : ℕ) → k ≡ barredBy s → (k ≡ 0 → ⊥) → k ≡ refusalOf s call
-  number-barred k e z = e ∙ sym (bars s call refl (λ q. z (e ∙ q)))
+  -- nothing bars the call
+  number-free : Free s → cond (framesFit (s .design) n) (cond (eqb (n * (s .table .count * copiesOf (s .design))) (length curve)) 0 7) 4 ≡ refusalOf s call
+  unfolding refusalOf refusal blockOpen blockMissing noBlock handlesSpent view
+  number-free f = rw (f .counted, f .well, eq-eqb (s .frames) 0 (f .closed), table-copies s lv lh (f .formed)) (by (framesFit (s .design) n) (n * (s .table .count * copiesOf (s .design))) (length curve))
+    where
+      by : (b : Bool) (x y : ℕ) → _≡_ {A = ℕ} (cond b (cond (eqb x y) 0 7) 4) (cond (not b) 4 (cond (not (eqb y x)) 7 0))
+      by b x y = cases b (eqb x y) refl
+        where
+          cases : (b c : Bool) → eqb x y ≡ c → _≡_ {A = ℕ} (cond b (cond (eqb x y) 0 7) 4) (cond (not b) 4 (cond (not (eqb y x)) 7 0))
+          cases true true p = rw (p, eq-eqb y x (sym (eqb-true x y p)))
+          cases true false p = rw (p, ne-eqb y x (λ e. eqb-false x y p (sym e)))
+          cases false c p = refl
 
-  module _ (f : Free s) where
-    pub number-4 : framesFit (s .design) n ≡ false → 4 ≡ refusalOf s call
-    unfolding refusalOf refusal blockOpen blockMissing noBlock view
-    number-4 e = rw (f .counted, f .well, eq-eqb (s .frames) 0 (f .closed), e)
-
-    module _ (e : framesFit (s .design) n ≡ true) (rows : ℕ) (r : Rows s rows) where
-      pub number-7 : (length curve ≡ n * rows → ⊥) → 7 ≡ refusalOf s call
-      unfolding refusalOf refusal blockOpen blockMissing noBlock view
-      number-7 h = rw (f .counted, f .well, eq-eqb (s .frames) 0 (f .closed), e, r .all, ne-eqb (length curve) (n * rows) h)
-
-      pub number-0 : length curve ≡ n * rows → 0 ≡ refusalOf s call
-      unfolding view handlesSpent
-      number-0 h = sym (unrefused s call f refl (rw e) (rw (r .all, eq-eqb (length curve) (n * rows) h)) refl)
+  pub plan-number : (k m : ℕ) → k ≡ barredBy s → m ≡ planRefusal k n (s .table .count) (s .design) (length curve) → m ≡ refusalOf s call
+  unfolding planRefusal
+  plan-number k m e f = f ∙ by (eqb k 0) refl
+    where
+      by : (b : Bool) → eqb k 0 ≡ b → planRefusal k n (s .table .count) (s .design) (length curve) ≡ refusalOf s call
+      by true p = cond-true _ _ _ p ∙ number-free (free s (sym e ∙ eqb-true k 0 p))
+      by false p = cond-false _ _ _ p ∙ e ∙ sym (bars s call refl (λ q. eqb-false k 0 p (e ∙ q)))
 
 -- ---- the lent list
 
@@ -165,20 +127,20 @@ module _ (s : Instrument) (c : M.Call) where
 -- ---- the states
 
 -- another table of as many voices
-module _ (s : Instrument) (g : M.Voice → M.Voice) (ws : List Voice) (e : seenFirst (s .«voice_count») ws ≡ map (onSeen g) (tableOf s)) where
-  moved-stands : (a b c t : Float) → StandsFor s (moved (view s) (map g (view s .voices)) a b c t) (movedAs s ws a b c t)
-  unfolding counted view movedAs moved
-  moved-stands a b c t = record {
-    inRoom = λ k. let n = counts s k in rw (le-leb _ 64 (n .voices64), le-leb _ 256 (n .held256)) (mapped-room s g ws e k);
-    next = ap (λ (vs : List M.Voice). moved (view s) vs a b c t) (mapped-voices s g ws e);
-  }
+module _ (s : Instrument) (g : M.Voice → M.Voice) (t : Table) (h : Holds (map (onSeen g) (seenIn (s .table))) t) where
+  room : counted s ≡ true → roomy t (s .held) ≡ true
+  room k = let st = stands-mapped s k g t h in roomy-of t (s .held) (st .size) (counts s k .held256) (st .room)
 
-  blocked-stands : (n : ℕ) → StandsFor s (blocked (view s) (map g (view s .voices)) n) (blockedAs s ws (s .«voice_count») n)
+  voices-are : voicesIn t ≡ map g (voicesIn (s .table))
+  voices-are = ap (map (λ (x : Seen). x .voice)) (h .seen) ∙ map-seen g (seenIn (s .table))
+
+  moved-stands : (a b c x : Float) → StandsFor s (moved (view s) (map g (view s .voices)) a b c x) (movedAs s t a b c x)
+  unfolding counted view movedAs moved
+  moved-stands a b c x = record { inRoom = room; next = ap (λ (vs : List M.Voice). moved (view s) vs a b c x) voices-are }
+
+  blocked-stands : (n : ℕ) → StandsFor s (blocked (view s) (map g (view s .voices)) n) (blockedAs s t n)
   unfolding counted view blockedAs blocked
-  blocked-stands n = record {
-    inRoom = λ k. let n = counts s k in rw (le-leb _ 64 (n .voices64), le-leb _ 256 (n .held256)) (mapped-room s g ws e k);
-    next = ap (λ (vs : List M.Voice). blocked (view s) vs n) (mapped-voices s g ws e);
-  }
+  blocked-stands n = record { inRoom = room; next = ap (λ (vs : List M.Voice). blocked (view s) vs n) voices-are }
 
 -- the state after the modulation
 abbrev pub ModulatedAs : Instrument → ℕ → Float → Float → Float → Instrument → Type 0
@@ -194,17 +156,17 @@ wobble-is s v f = ap withCopies (fun-ext (λ c. by (lt +0 (s .design .modulation
     by false b k c = refl
 
 module _ (s : Instrument) (n : ℕ) (vibrato filter sine : Float) where
-  pub applies : (r : Instrument) (v f t d a b c : Float) (w : VoiceChange) (ws : List Voice)
+  pub applies : (r : Instrument) (v f t d a b c : Float) (w : VoiceChange) (u : Table)
       → v ≡ vibratoFactor (s .design .modulation) vibrato → f ≡ filterFactor (s .design .modulation) filter → t ≡ tremoloGain (s .design .modulation) sine
       → d ≡ stepOf n (s .design .«sample_rate») → a ≡ phaseOn (s .«vib_phase») (s .design .modulation .«vibrato_rate») d
       → b ≡ phaseOn (s .«flt_phase») (s .design .modulation .«filter_rate») d → c ≡ phaseOn (s .«trem_phase») (s .design .modulation .«tremolo_rate») d
       → w ≡ wobbleOf (s .design .modulation) (mul binary32 (s .bend) v) (mul binary32 (s .brightness) f)
-      → seenFirst (s .«voice_count») ws ≡ map (onSeen (voiceChanged w)) (tableOf s) → r ≡ movedAs s ws a b c t
+      → Holds (map (onSeen (voiceChanged w)) (seenIn (s .table))) u → r ≡ movedAs s u a b c t
       → StandsFor s (applied (view s) n vibrato filter sine) r
   unfolding applied phaseAfter view
-  applies r v f t d a b c w ws ev ef et ed ea eb ec ew e q =
+  applies r v f t d a b c w u ev ef et ed ea eb ec ew e q =
       let g : voiceChanged w ≡ withCopies (wobbled (view s) (vibratoFactor (s .design .modulation) vibrato) (filterFactor (s .design .modulation) filter)) = rw (ew, ev, ef) (wobble-is s _ _) in
-      rw (q, ea, eb, ec, et, ed) (moved-stands s _ ws (rw g at e) _ _ _ _)
+      rw (q, ea, eb, ec, et, ed) (moved-stands s _ u (rw g at e) _ _ _ _)
 
   pub modulated-on : (r : Instrument) → modulated (s .design .modulation) ≡ true → StandsFor s (applied (view s) n vibrato filter sine) r → ModulatedAs s n vibrato filter sine r
   unfolding modulatedBy view
@@ -231,41 +193,32 @@ module _ (s : Instrument) (n : ℕ) (vibrato filter sine : Float) (old : List Fl
         by zero q = q
         by (suc k) q = sym (bars s (M.Call.plan n vibrato filter sine old) refl (λ z. let w : suc k ≡ 0 = sym q ∙ z in let n : ⊥ = omega arith in n)) ∙ e
 
-    -- no block is open, so the call took none out of its state
-    pub plan-taken : (t : Instrument) → ModulatedAs (withFrames s 0) n vibrato filter sine t → ModulatedAs s n vibrato filter sine t
-    plan-taken t m = rw (shut s unbarred) at m
-
-    pub plan-fits : (n ≤ 1024) × (rateFits (s .design .«sample_rate») ≡ true) × (s .«voice_count» ≤ 64)
+    pub plan-fits : (n ≤ 1024) × (rateFits (s .design .«sample_rate») ≡ true)
     unfolding wellFormed view
-    plan-fits = (frames-most _ _ (not-false _ (kept .frames)), rate-fits _ (both (isAccepted (s .design)) _ (kept .well) .0), counts s (counted-of s _ e) .voices64)
+    plan-fits = (frames-most _ _ (not-false _ (kept .frames)), rate-fits _ (both (isAccepted (s .design)) _ (kept .well) .0))
 
     module _ (t : Instrument) (m : ModulatedAs s n vibrato filter sine t) where
       in-room : counted t ≡ true
       in-room = m .inRoom (counted-of s _ e)
 
-      pub plan-room : t .«voice_count» ≤ 64
+      pub plan-room : t .table .count ≤ 64
       plan-room = counts t in-room .voices64
 
-      -- every voice has the design's copies
-      pub plan-even : all (copiesFit (copiesOf (s .design))) (voicesOf (tableOf t)) ≡ true
-      unfolding view
-      plan-even =
-          ap (λ (w : M.Model). all (copiesFit (copiesOf (s .design))) (w .voices)) (m .next) ∙ modulated-even (view s) n vibrato filter sine _ (well-even (view s) (kept .well))
-
-      pub plan-size : n * copiesIn (voicesOf (tableOf t)) ≡ length old
+      pub plan-size : n * copiesIn (voicesIn (t .table)) ≡ length old
       unfolding view
       plan-size =
-          let q : copiesIn (voicesOf (tableOf t)) ≡ copiesIn (view s .voices) = ap (λ (w : M.Model). copiesIn (w .voices)) (m .next) ∙ modulated-copies (view s) n vibrato filter sine in
+          let q : copiesIn (voicesIn (t .table)) ≡ copiesIn (view s .voices) = ap (λ (w : M.Model). copiesIn (w .voices)) (m .next) ∙ modulated-copies (view s) n vibrato filter sine in
           ap (_*_ n) q ∙ sym (eqb-true _ _ (not-false _ (kept .lengths)))
 
-      pub plan-done : (ws : List Voice) (new : List Float) (r : Outcome) → seenFirst (t .«voice_count») ws ≡ map (onSeen (withCopies (glided n))) (tableOf t) → new ≡ curves n (voicesOf (tableOf t))
-          → r ≡ answeredAs Planned (blockedAs t ws (t .«voice_count») n) → PlannedAs s n vibrato filter sine old new r
+      pub plan-done : (u : Table) (new : List Float) (r : Outcome) → Holds (map (onSeen (withCopies (glided n))) (seenIn (t .table))) u → new ≡ curves n (voicesIn (t .table))
+          → r ≡ answeredAs Planned (blockedAs t u n) → PlannedAs s n vibrato filter sine old new r
       unfolding planOf opened view
-      plan-done ws new r glides fills q =
-          let o = blocked-stands t _ ws glides n in
+      plan-done u new r g c q =
+          let o = blocked-stands t (withCopies (glided n)) u g n in
           let same = ap (λ (w : M.Model). opened w n) (m .next) in
           rw q
           (record {
-            call = accepted-call s _ (answeredAs Planned (blockedAs t ws (t .«voice_count») n)) e (record { reply = refl; inRoom = o .inRoom in-room; next = o .next ∙ ap (λ (w : M.Outcome). w .model) same });
-            lent = fills ∙ ap (λ (w : M.Outcome). w .lent) same ∙ accepted-lent s (M.Call.plan n vibrato filter sine old) e;
+            call = accepted-call s _ (answeredAs Planned (blockedAs t u n)) e
+                (record { reply = refl; inRoom = o .inRoom in-room; next = o .next ∙ ap (λ (w : M.Outcome). w .model) same });
+            lent = c ∙ ap (λ (w : M.Outcome). w .lent) same ∙ accepted-lent s (M.Call.plan n vibrato filter sine old) e;
           })

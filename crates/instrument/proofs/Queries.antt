@@ -13,14 +13,14 @@ use Rattle.model.specs.Formed.{wellFormed}
 use Rattle.model.specs.Queries as Q
 use Rattle.model.specs.Queries.{isActive, activeVoices, soundsNote, VoiceOf}
 use Rattle.model.specs.Voices.{isPlace, placeOf, hasHandle, handleAt}
-use Rattle.voices.specs.View.{voicesOf}
+use Rattle.table.specs.View.{voicesIn}
 use Rattle.instrument.specs.View.{view, counted, formed}
 use Rattle.instrument.specs.Asked.{askedOf, VoiceAs}
 use Rattle.instrument.specs.declared.Instrument.{Instrument}
 use Rattle.instrument.specs.declared.Answer.{Answer}
 use Rattle.instrument.specs.declared.Answer.the-variants.{Handle, NoHandle, Refused}
 use Rattle.instrument.proofs.Calls.{counts}
-use Rattle.instrument.proofs.Formed.{tableOf, voices-count}
+use Rattle.instrument.proofs.Formed.{voices-count}
 
 -- a state that is not well formed, on its counts or on what it stands for
 module _ (s : Instrument) (e : formed s ≡ false) where
@@ -46,30 +46,30 @@ module _ (s : Instrument) (e : formed s ≡ false) where
   voice-refused n = record { inRoom = λ p. ((rw p at e), refl); beyond = λ _. refl }
 
 -- a state that is well formed
-module _ (s : Instrument) (e : formed s ≡ true) (lv : length (s .voices) ≡ 64) where
+module _ (s : Instrument) (e : formed s ≡ true) (lv : length (s .table .voices) ≡ 64) where
   fine : (counted s ≡ true) × (wellFormed (view s) ≡ true)
   unfolding formed
   fine = both (counted s) (wellFormed (view s)) e
 
-  long : s .«voice_count» ≤ length (s .voices)
+  long : s .table .count ≤ length (s .table .voices)
   long = let k = counts s (fine .0) .voices64 in omega arith
 
-  pub active-found : (h k : ℕ) → k ≡ findAt (hasHandle h) (voicesOf (tableOf s)) → Q.Answer.active (ltb k (s .«voice_count»)) ≡ askedOf s (isActive (view s) h)
+  pub active-found : (h k : ℕ) → k ≡ findAt (hasHandle h) (voicesIn (s .table)) → Q.Answer.active (ltb k (s .table .count)) ≡ askedOf s (isActive (view s) h)
   unfolding askedOf isActive isPlace placeOf view
   active-found h k q = rw (fine .0, fine .1, voices-count s long, q)
 
-  pub voices-found : Q.Answer.voices (s .«voice_count») ≡ askedOf s (activeVoices (view s))
+  pub voices-found : Q.Answer.voices (s .table .count) ≡ askedOf s (activeVoices (view s))
   unfolding askedOf activeVoices view
   voices-found = rw (fine .0, fine .1, voices-count s long)
 
-  module _ (n k : ℕ) (q : k ≡ findAt (soundsNote n) (voicesOf (tableOf s))) where
-    pub voice-none : s .«voice_count» ≤ k → VoiceAs s n NoHandle
+  module _ (n k : ℕ) (q : k ≡ findAt (soundsNote n) (voicesIn (s .table))) where
+    pub voice-none : s .table .count ≤ k → VoiceAs s n NoHandle
     unfolding VoiceOf view
     voice-none h =
         let l = voices-count s long in
-        record { inRoom = λ _. (fine .1, find-missed (soundsNote n) (voicesOf (tableOf s)) (omega arith)); beyond = λ x. absurd (x (fine .0)) }
+        record { inRoom = λ _. (fine .1, find-missed (soundsNote n) (voicesIn (s .table)) (omega arith)); beyond = λ x. absurd (x (fine .0)) }
 
-    pub voice-some : (a : ℕ) → a ≡ handleAt (findAt (soundsNote n) (voicesOf (tableOf s))) (voicesOf (tableOf s)) → k < s .«voice_count» → VoiceAs s n (Handle a)
+    pub voice-some : (a : ℕ) → a ≡ handleAt k (voicesIn (s .table)) → k < s .table .count → VoiceAs s n (Handle a)
     unfolding VoiceOf view
     voice-some a e h =
         let l = voices-count s long in
@@ -79,8 +79,8 @@ module _ (s : Instrument) (e : formed s ≡ true) (lv : length (s .voices) ≡ 6
             record {
               place = k;
               inside = omega arith;
-              names = ap (λ (i : ℕ). handleAt i (voicesOf (tableOf s))) q ∙ sym e;
-              sounds = rw q (find-passes (soundsNote n) M.noVoice (voicesOf (tableOf s)) (omega arith));
+              names = sym e;
+              sounds = rw q (find-passes (soundsNote n) M.noVoice (voicesIn (s .table)) (omega arith));
             },
           );
           beyond = λ x. absurd (x (fine .0));

@@ -1,9 +1,13 @@
 -- What Mix promises (document 01, "Copies, Plan and Mix").
 use mathlib.Core.Path.{_≡_}
+use mathlib.Core.Bool.{Bool, _&&_, cond}
 use mathlib.Core.List.{List}
-use Prim.Native.Nat.{ℕ}
+use Prim.Native.Nat.{ℕ, _*_}
+use lib.Dec.{eqb}
 use lib.Ieee.{Float}
 use lib.ListN.{replicate}
+use Rattle.design.specs.declared.InstrumentDesign.{InstrumentDesign}
+use Rattle.design.specs.Accepted.{copiesOf}
 use Rattle.model.specs.Types as model
 use Rattle.instrument.specs.Calls.{refusalOf, lentOf, StepAs}
 use Rattle.instrument.specs.declared.Instrument.{Instrument}
@@ -22,5 +26,15 @@ pub record MixAs (s : Instrument) (samples old new : List Float) (r : MixOutcome
   pub nobody : (refusalOf s (model.Call.mix samples old) ≡ 0 → ⊥) → r .ended ≡ replicate 64 0
   pub lent : new ≡ lentOf s (model.Call.mix samples old)
 
+-- ---- the parts
+
 abbrev pub unmixedAs : Instrument → ℕ → MixOutcome
 unmixedAs s n = record { reply = Refused n; ended = replicate 64 0; state = s }
+
+abbrev pub mixedAs : Instrument → ℕ → List ℕ → MixOutcome
+mixedAs s gone ended = record { reply = Mixed gone; ended = ended; state = s }
+
+-- the number of the refusal where check 1 gave `formed`: 1, then 6, then 7 of a table with `voices` voices
+unfoldable pub mixRefusal : Bool → ℕ → ℕ → InstrumentDesign → ℕ → ℕ → ℕ
+mixRefusal formed frames voices d samples places =
+    cond formed (cond (eqb frames 0) 6 (cond (eqb (frames * (voices * copiesOf d)) samples && eqb (2 * frames) places) 0 7)) 1

@@ -1,49 +1,38 @@
-// The instrument (the Rust's instrument/mod.rs): the voice table and the calls on it.
+// The instrument (the Rust's instrument/mod.rs): the calls on it.
 
 ghost use mathlib.Core.Path.{_≡_};
-ghost use mathlib.Core.Bool.{Bool, true};
-ghost use Prim.Native.Nat.{_≤_, _<_};
-ghost use Rattle.design.specs.Accepted.{isAccepted, copiesOf};
-ghost use Rattle.model.specs.Types.{Call};
+ghost use Rattle.design.specs.Accepted.{isAccepted};
+ghost use Rattle.model.specs.Types.{Control, Call};
 ghost use Rattle.model.specs.Formed.{framesFit, blockFits};
 ghost use Rattle.model.specs.Queries.{isActive, activeVoices};
-ghost use Rattle.design.specs.declared.PlayMode.the-variants.{Poly, Mono};
-ghost use Rattle.model.specs.Notes.{velocityOf};
-ghost use Rattle.lists.specs.Prefix.{fold};
-ghost use Rattle.voices.specs.View.{seenFirst};
-ghost use Rattle.formed.specs.Held.{heldFirst};
-ghost use Rattle.formed.specs.Check.{lookStart, lookNext};
-ghost use Rattle.formed.specs.Survey.{Surveyed};
-ghost use Rattle.instrument.specs.declared.Instrument.{Instrument};
+ghost use mathlib.Core.Bool.{true};
+ghost use Prim.Native.Nat.{_<_};
+ghost use Rattle.design.specs.declared.PlayMode.the-variants.{Mono};
+ghost use Rattle.model.specs.Notes.{monoOff, velocityOf, newNote, monoOn, newHandleIn};
 ghost use Rattle.instrument.specs.View.{view, counted, numbersFit, formed as formedState};
-ghost use Rattle.instrument.specs.Calls.{emptyModel, withFrames, refusedAs, answeredAs, barredBy, fallBackOf, Reads, OffAs, lastHandle, placedAs, stayOn, spawnOn, HeldOn, OnAs, CallAs, StartAs};
+ghost use Rattle.instrument.specs.Calls.{emptyModel, StartAs, lastHandle, refusedAs, answeredAs, barredIn, barredBy, Gives, OnAs, CallAs};
 ghost use Rattle.instrument.specs.Asked.{answerOf, askedOf, VoiceAs};
 use design::DesignReply;
 use design::InstrumentDesign;
 use design::PlayMode;
 use design::zero_design;
 use envelope::EnvGen;
-use formed::Held;
-use formed::Looked;
-use formed::survey::Survey;
-use formed::survey::survey_of;
+use held::Held;
 use note::Note;
 use stream::UnisonCopy;
+use table::Table;
+use voice::CopyChange;
 use voice::Voice;
 use voice::VoiceChange;
 use voice::VoiceTest;
 use voice::new_voice;
-use voices::steal::Stolen;
-use voices::steal::steal;
 
 mod mix;
 mod plan;
 
 pub struct Instrument {
     pub design: InstrumentDesign,
-    // Live voices in order of birth, up to `voice_count`.
-    pub voices: [Voice; 64],
-    pub voice_count: usize,
+    pub table: Table,
     pub next_handle: u64,
     // Sustain pedal: while down, note-offs wait for it.
     pub sustain: bool,
@@ -56,9 +45,8 @@ pub struct Instrument {
     pub trem_phase: f32,
     // Present tremolo gain.
     pub trem: f32,
-    // Notes held in Mono, oldest first, up to `held_count`.
-    pub held: [Note; 256],
-    pub held_count: usize,
+    // Notes held in Mono.
+    pub held: Held,
     // Frames of the open block, 0 where none is open.
     pub frames: usize,
 }
@@ -79,7 +67,6 @@ pub enum Reply {
     Refused(u8),
 }
 
-// The state comes first: compiled code then moves it in one piece, and the reply by itself.
 pub struct Outcome {
     pub state: Instrument,
     pub reply: Reply,
@@ -99,7 +86,7 @@ pub struct MixOutcome {
     pub ended: [u64; 64],
 }
 
-// What a query answers.
+// What a query answers; the number is that of the refusal.
 pub enum Answer {
     Active(bool),
     Voices(usize),
@@ -111,34 +98,6 @@ pub enum Answer {
 pub struct NewInstrument {
     pub reply: DesignReply,
     pub state: Instrument,
-}
-
-// What a note-off does.
-struct NoteOff {
-    // How many voices are looked through: all of them or none.
-    reach: usize,
-    // The voice that is looked for, and what becomes of it.
-    test: VoiceTest,
-    change: VoiceChange,
-    // The notes that stay held, and whether one was held.
-    rest: Held,
-    held: bool,
-}
-
-// What a note-on does. A place past the table stands for no voice.
-struct NoteOn {
-    reply: Reply,
-    // A handle is due, and none is left.
-    spent: bool,
-    // The voice that goes on or is killed, and what becomes of it.
-    place: usize,
-    change: VoiceChange,
-    // The voice that is taken out.
-    taken: usize,
-    // Whether a voice is added, and how many there are then.
-    adds: bool,
-    count: usize,
-    next: u64,
 }
 
 fn is_accepted(design: InstrumentDesign) -> bool
@@ -196,44 +155,6 @@ fn numbers_fit(design: InstrumentDesign, n: usize, h: usize, next: u64, frames: 
     block_fits(design, frames)
 }
 
-impl Instrument {
-    // Check 1.
-    pub fn well_formed(self) -> bool
-        ensures { λ b. ⌜ b ≡ formedState self ⌝ }
-    {
-        let design = self.design;
-        let n = self.voice_count;
-        let h = self.held_count;
-        let next = self.next_handle;
-        if !numbers_fit(design, n, h, next, self.frames) {
-            return false;
-        }
-        let vs = self.voices;
-        let held = self.held;
-        formed::tables_fit(design, next, vs, n, held, h)
-    }
-
-    // Check 1, where the voices were looked at.
-    fn formed_by(self, looked: Looked) -> bool
-        ensures { λ b. ⌜ (looked ≡ fold (lookNext (self .«next_handle») (copiesOf (self .design))) lookStart (seenFirst (self .«voice_count») (self .voices)) → b ≡ formedState self) ⌝ }
-    {
-        let design = self.design;
-        let n = self.voice_count;
-        let h = self.held_count;
-        if !numbers_fit(design, n, h, self.next_handle, self.frames) {
-            return false;
-        }
-        let vs = self.voices;
-        let once = if looked.rise {
-            true
-        } else {
-            formed::handles_distinct(vs, n)
-        };
-        let held = self.held;
-        formed::looked_fit(looked, once, design, held, h)
-    }
-}
-
 // A voice that stands in no table.
 fn no_voice() -> Voice {
     let made = EnvGen::new(0.0, 0.0, 0.0, 0.0, 0);
@@ -259,8 +180,10 @@ impl Instrument {
         let voice = no_voice();
         Instrument {
             design,
-            voices: [voice; 64],
-            voice_count: 0,
+            table: Table {
+                voices: [voice; 64],
+                count: 0,
+            },
             next_handle,
             sustain: false,
             bend: scale,
@@ -269,8 +192,10 @@ impl Instrument {
             flt_phase: 0.0,
             trem_phase: 0.0,
             trem: scale,
-            held: [Note(0); 256],
-            held_count: 0,
+            held: Held {
+                notes: [Note(0); 256],
+                count: 0,
+            },
             frames: 0,
         }
     }
@@ -292,289 +217,30 @@ impl Instrument {
     }
 }
 
-// The very state given, with the frames of its block put back and the number of the refusal.
-fn refused(mut state: Instrument, frames: usize, number: u8) -> Outcome
-    ensures { λ r. ⌜ r ≡ refusedAs (withFrames state frames) number ⌝ }
-{
-    state.frames = frames;
-    Outcome {
-        reply: Reply::Refused(number),
-        state,
-    }
-}
-
 fn answered(reply: Reply, state: Instrument) -> Outcome
     ensures { λ r. ⌜ r ≡ answeredAs reply state ⌝ }
 {
     Outcome { reply, state }
 }
 
-impl Instrument {
-    // 1 or 5 where a call other than Mix meets a state that bars it, else 0. A call first takes the frames out of its state, and
-    // `formed` is check 1 of the rest: of a state that was changed the compiler makes no copy to hand it to the check.
-    fn barred(self, formed: bool, frames: usize) -> u8
-        requires { ⌜ (formed ≡ formedState self) × (self .frames ≡ 0) ⌝ }
-        ensures { λ n. ⌜ n ≡ barredBy (withFrames self frames) ⌝ }
-    {
-        if !formed {
-            return 1;
-        }
-        if frames == 0 {
-            return 0;
-        }
-        if frames_fit(self.design, frames) {
-            5
-        } else {
-            1
-        }
-    }
-
-    // Sustain pedal: on its release every sustained voice is released.
-    pub fn set_sustain(mut self, down: bool) -> Outcome
-        ensures { λ r. ⌜ CallAs self (Call.pedal down) r ⌝ }
-    {
-        let frames = self.frames;
-        self.frames = 0;
-        let number = self.barred(self.well_formed(), frames);
-        if number != 0 {
-            return refused(self, frames, number);
-        }
-        self.sustain = down;
-        if down {
-            return answered(Reply::Done, self);
-        }
-        let n = self.voice_count;
-        let mut i: usize = 0;
-        while i < n {
-            if self.voices[i].sustained {
-                self.voices[i] = self.voices[i].lifted();
-            }
-            i += 1;
-        }
-        answered(Reply::Done, self)
-    }
-
-    // Releases one voice by its handle.
-    pub fn release(mut self, handle: u64) -> Outcome
-        ensures { λ r. ⌜ CallAs self (Call.release handle) r ⌝ }
-    {
-        let frames = self.frames;
-        self.frames = 0;
-        let number = self.barred(self.well_formed(), frames);
-        if number != 0 {
-            return refused(self, frames, number);
-        }
-        let n = self.voice_count;
-        let mut i: usize = 0;
-        while i < n {
-            if self.voices[i].handle == handle {
-                self.voices[i] = self.voices[i].released();
-                return answered(Reply::Released(true), self);
-            }
-            i += 1;
-        }
-        answered(Reply::Released(false), self)
-    }
-
-    // Releases every voice and holds no note.
-    pub fn all_notes_off(mut self) -> Outcome
-        ensures { λ r. ⌜ CallAs self Call.allOff r ⌝ }
-    {
-        let frames = self.frames;
-        self.frames = 0;
-        let number = self.barred(self.well_formed(), frames);
-        if number != 0 {
-            return refused(self, frames, number);
-        }
-        let n = self.voice_count;
-        let mut i: usize = 0;
-        while i < n {
-            self.voices[i] = self.voices[i].released();
-            i += 1;
-        }
-        self.held_count = 0;
-        answered(Reply::Done, self)
-    }
-}
-
-impl Instrument {
-    // Bends every voice, and any struck later, by the wheel's factor.
-    pub fn set_bend(mut self, factor: f32) -> Outcome
-        ensures { λ r. ⌜ CallAs self (Call.bend factor) r ⌝ }
-    {
-        let frames = self.frames;
-        self.frames = 0;
-        let number = self.barred(self.well_formed(), frames);
-        if number != 0 {
-            return refused(self, frames, number);
-        }
-        let n = self.voice_count;
-        let mut i: usize = 0;
-        while i < n {
-            self.voices[i] = self.voices[i].with_bend(factor);
-            i += 1;
-        }
-        self.bend = factor;
-        answered(Reply::Done, self)
-    }
-
-    // Sets the cutoff of every copy, and of any built later.
-    pub fn set_brightness(mut self, scale: f32) -> Outcome
-        ensures { λ r. ⌜ CallAs self (Call.brightness scale) r ⌝ }
-    {
-        let frames = self.frames;
-        self.frames = 0;
-        let number = self.barred(self.well_formed(), frames);
-        if number != 0 {
-            return refused(self, frames, number);
-        }
-        let least = float32::max(scale, 0.01);
-        let n = self.voice_count;
-        let mut i: usize = 0;
-        while i < n {
-            self.voices[i] = self.voices[i].with_cutoff(least);
-            i += 1;
-        }
-        self.brightness = least;
-        answered(Reply::Done, self)
-    }
-
-    // Whether a handle is in the table.
-    pub fn is_active(self, handle: u64) -> Answer
-        ensures { λ a. ⌜ answerOf a ≡ askedOf self (isActive (view self) handle) ⌝ }
-    {
-        if !self.well_formed() {
-            return Answer::Refused(1);
-        }
-        let vs = self.voices;
-        let n = self.voice_count;
-        let found = voices::find_first(vs, n, VoiceTest::Handle(handle));
-        Answer::Active(found.place < n)
-    }
-
-    // How many voices are in the table.
-    pub fn active_voices(self) -> Answer
-        ensures { λ a. ⌜ answerOf a ≡ askedOf self (activeVoices (view self)) ⌝ }
-    {
-        if !self.well_formed() {
-            return Answer::Refused(1);
-        }
-        Answer::Voices(self.voice_count)
-    }
-
-    // Some voice of a note that is not releasing.
-    pub fn voice_of(self, note: u8) -> Answer
-        ensures { λ a. ⌜ VoiceAs self note a ⌝ }
-    {
-        if !self.well_formed() {
-            return Answer::Refused(1);
-        }
-        let vs = self.voices;
-        let n = self.voice_count;
-        let found = voices::find_first(vs, n, VoiceTest::SoundsNote(note));
-        if n <= found.place {
-            return Answer::NoHandle;
-        }
-        Answer::Handle(found.handle)
-    }
-}
-
-// Where no other note is held the Mono voice goes off; else it falls back to the newest of them.
-fn fall_back(rest: Held, down: bool, glide: f32) -> VoiceChange
-    requires { ⌜ rest .count ≤ 256 ⌝ }
-    ensures { λ c. ⌜ c ≡ fallBackOf down glide (heldFirst (rest .count) (rest .notes)) ⌝ }
+// The very state given.
+fn refused(state: Instrument, number: u8) -> Outcome
+    ensures { λ r. ⌜ r ≡ refusedAs state number ⌝ }
 {
-    let count = rest.count;
-    if count == 0 {
-        return VoiceChange::Off(down);
+    Outcome {
+        reply: Reply::Refused(number),
+        state,
     }
-    let notes = rest.notes;
-    let previous = notes[count - 1];
-    VoiceChange::AimAt(previous.0, glide)
 }
 
-// Of a note that is not held nothing is looked for.
-fn mono_note_off(holding: Held, n: usize, note: u8, down: bool, glide: f32) -> NoteOff
-    ensures { λ o. ⌜ ((s : Instrument) → Reads s holding n down → (b : Bool) → s .design .mode ≡ Mono b → s .design .glide ≡ glide → OffAs s note o) ⌝ }
+// 1 or 5 where a call other than Mix meets a state that bars it, else 0: by check 1 and the frames of the open block.
+fn barred(formed: bool, frames: usize) -> u8
+    ensures { λ n. ⌜ n ≡ barredIn formed frames ⌝ }
 {
-    let held = holding.notes;
-    let rest = formed::held_without(held, holding.count, note);
-    if rest.count == holding.count {
-        return NoteOff {
-            reach: 0,
-            test: VoiceTest::Sounding,
-            change: VoiceChange::Off(down),
-            rest: holding,
-            held: false,
-        };
+    if !formed {
+        return 1;
     }
-    NoteOff {
-        reach: n,
-        test: VoiceTest::Sounding,
-        change: fall_back(rest, down, glide),
-        rest,
-        held: true,
-    }
-}
-
-// In Poly the newest voice of the note that is neither releasing nor sustained goes off.
-fn poly_note_off(holding: Held, n: usize, note: u8, down: bool) -> NoteOff
-    ensures { λ o. ⌜ ((s : Instrument) → Reads s holding n down → s .design .mode ≡ Poly → OffAs s note o) ⌝ }
-{
-    NoteOff {
-        reach: n,
-        test: VoiceTest::Plays(note),
-        change: VoiceChange::Off(down),
-        rest: holding,
-        held: false,
-    }
-}
-
-fn off_of(design: InstrumentDesign, holding: Held, n: usize, note: u8, down: bool) -> NoteOff
-    ensures { λ o. ⌜ ((s : Instrument) → Reads s holding n down → s .design ≡ design → OffAs s note o) ⌝ }
-{
-    let mode = design.mode;
-    match mode {
-        PlayMode::Poly => poly_note_off(holding, n, note, down),
-        PlayMode::Mono { legato: _ } => mono_note_off(holding, n, note, down, design.glide),
-    }
-}
-
-impl Instrument {
-    // The voice is looked for from the newest on.
-    pub fn note_off(mut self, note: u8) -> Outcome
-        ensures { λ r. ⌜ CallAs self (Call.noteOff note) r ⌝ }
-    {
-        let frames = self.frames;
-        self.frames = 0;
-        let number = self.barred(self.well_formed(), frames);
-        if number != 0 {
-            return refused(self, frames, number);
-        }
-        let design = self.design;
-        let held = self.held;
-        let holding = Held {
-            notes: held,
-            count: self.held_count,
-        };
-        let off = off_of(design, holding, self.voice_count, note, self.sustain);
-        let test = off.test;
-        let change = off.change;
-        let rest = off.rest;
-        let notes = rest.notes;
-        self.held = notes;
-        self.held_count = rest.count;
-        let mut i = off.reach;
-        while 0 < i {
-            let k = i - 1;
-            if self.voices[k].passes(test) {
-                self.voices[k] = self.voices[k].changed(change);
-                return answered(Reply::Off(true), self);
-            }
-            i = k;
-        }
-        answered(Reply::Off(off.held), self)
-    }
+    if frames == 0 { 0 } else { 5 }
 }
 
 // A NaN is no velocity; others lie within 0 and 1.
@@ -587,136 +253,262 @@ fn velocity_of(velocity: f32) -> f32
     float32::clamp(velocity, 0.0, 1.0)
 }
 
-// The notes held after a note-on: in Mono the note is the newest.
-fn held_on(design: InstrumentDesign, notes: [Note; 256], count: usize, note: u8) -> Held
-    ensures { λ h. ⌜ HeldOn (design .mode) notes count note h ⌝ }
-{
-    let mode = design.mode;
-    match mode {
-        PlayMode::Poly => Held { notes, count },
-        PlayMode::Mono { legato: _ } => formed::held_with(notes, count, note),
-    }
-}
-
-// No voice is added: the one at `place` goes on, or none is there and none is changed; `next` is the next handle after it.
-fn stay(reply: Reply, spent: bool, place: usize, change: VoiceChange, n: usize, next: u64) -> NoteOn
-    ensures { λ o. ⌜ o ≡ stayOn reply spent place change n next ⌝ }
-{
-    NoteOn {
-        reply,
-        spent,
-        place,
-        change,
-        taken: n,
-        adds: false,
-        count: n,
-        next,
-    }
-}
-
-// A new voice, for which room is made: one voice more, or as many where one is taken out.
-fn spawn_voice(stolen: Stolen, n: usize, next: u64) -> NoteOn
-    requires { ⌜ (n ≤ 64) × (next < lastHandle) ⌝ }
-    ensures { λ o. ⌜ o ≡ spawnOn stolen n next ⌝ }
-{
-    let count = if stolen.taken < n { n } else { n + 1 };
-    let after = next + 1;
-    NoteOn {
-        reply: Reply::Started(next, stolen.killed_handle, stolen.taken_handle),
-        spent: false,
-        place: stolen.killed,
-        change: VoiceChange::Kill,
-        taken: stolen.taken,
-        adds: true,
-        count,
-        next: after,
-    }
-}
-
-// The table is edited: the rest of what a note-on does.
-fn settled(mut state: Instrument, on: NoteOn, held: Held) -> Outcome
-    ensures { λ r. ⌜ r ≡ answeredAs (on .reply) (placedAs state (state .voices) (on .count) (on .next) (state .sustain) held) ⌝ }
-{
-    let notes = held.notes;
-    state.held = notes;
-    state.held_count = held.count;
-    state.voice_count = on.count;
-    state.next_handle = on.next;
-    let reply = on.reply;
-    answered(reply, state)
-}
-
 impl Instrument {
-    // What a note-on does: the Mono voice that sounds goes on, else a handle is due, with a voice where one was built.
-    fn on_of(self, seen: Survey, note: u8, velocity: f32, built: bool) -> NoteOn
-        requires { ⌜ (barredBy self ≡ 0) × Surveyed (self .«next_handle») (copiesOf (self .design)) (seenFirst (self .«voice_count») (self .voices)) seen ⌝ }
-        ensures { λ o. ⌜ OnAs self note velocity built o ⌝ }
+    // Check 1.
+    pub fn well_formed(self) -> bool
+        ensures { λ b. ⌜ b ≡ formedState self ⌝ }
     {
         let design = self.design;
-        let mode = design.mode;
-        let n = self.voice_count;
-        let next = self.next_handle;
-        if let PlayMode::Mono { legato } = mode {
-            let vs = self.voices;
-            let found = voices::find_first(vs, n, VoiceTest::Sounding);
-            if found.place < n {
-                let reply = Reply::Kept(found.handle);
-                let change = VoiceChange::Keep(note, design.glide, legato, velocity);
-                return stay(reply, false, found.place, change, n, next);
-            }
+        let held = self.held.count;
+        if !numbers_fit(
+            design,
+            self.table.count,
+            held,
+            self.next_handle,
+            self.frames,
+        ) {
+            return false;
         }
-        let kill = VoiceChange::Kill;
-        if next == 0xffff_ffff_ffff_ffff {
-            return stay(Reply::Refused(8), true, n, kill, n, next);
+        if !self.table.fits(design, self.next_handle, held) {
+            return false;
         }
-        if !built {
-            return stay(Reply::Silent(next), false, n, kill, n, next + 1);
-        }
-        let looked = seen.looked;
-        let max = design.max_voices as usize;
-        let stolen = steal(looked.sounding, seen.sounds, seen.stands, n, max);
-        spawn_voice(stolen, n, next)
+        self.held.distinct()
     }
 
-    // Starts a note, or goes on with the Mono voice; at velocity 0 it is a note-off. In the table one voice is changed, those
-    // behind a voice that is taken out move down, and the new one is added.
-    pub fn note_on(mut self, note: u8, velocity: f32, built: bool) -> Outcome
+    // Sustain pedal: on its release every sustained voice is released.
+    pub fn set_sustain(mut self, down: bool) -> Outcome
+        ensures { λ r. ⌜ CallAs self (Call.control (Control.pedal down)) r ⌝ }
+    {
+        let number = barred(self.well_formed(), self.frames);
+        if number != 0 {
+            return refused(self, number);
+        }
+        self.sustain = down;
+        if down {
+            return answered(Reply::Done, self);
+        }
+        let lifted = self.table.change_all(VoiceChange::Lift);
+        self.table = lifted;
+        answered(Reply::Done, self)
+    }
+
+    // Releases one voice by its handle.
+    pub fn release(mut self, handle: u64) -> Outcome
+        ensures { λ r. ⌜ CallAs self (Call.control (Control.release handle)) r ⌝ }
+    {
+        let number = barred(self.well_formed(), self.frames);
+        if number != 0 {
+            return refused(self, number);
+        }
+        let place = self.table.find_first(VoiceTest::Handle(handle));
+        if self.table.count <= place {
+            return answered(Reply::Released(false), self);
+        }
+        let after = self.table.change_at(place, VoiceChange::Release);
+        self.table = after;
+        answered(Reply::Released(true), self)
+    }
+
+    // Releases every voice and holds no note.
+    pub fn all_notes_off(mut self) -> Outcome
+        ensures { λ r. ⌜ CallAs self (Call.control Control.allOff) r ⌝ }
+    {
+        let number = barred(self.well_formed(), self.frames);
+        if number != 0 {
+            return refused(self, number);
+        }
+        let after = self.table.change_all(VoiceChange::Release);
+        self.table = after;
+        self.held.count = 0;
+        answered(Reply::Done, self)
+    }
+
+    // Bends every voice, and any struck later, by the wheel's factor.
+    pub fn set_bend(mut self, factor: f32) -> Outcome
+        ensures { λ r. ⌜ CallAs self (Call.control (Control.bend factor)) r ⌝ }
+    {
+        let number = barred(self.well_formed(), self.frames);
+        if number != 0 {
+            return refused(self, number);
+        }
+        self.bend = factor;
+        let bent = self.table
+            .change_all(VoiceChange::Copies(CopyChange::Bend(factor)));
+        self.table = bent;
+        answered(Reply::Done, self)
+    }
+
+    // Sets the cutoff of every copy, and of any built later.
+    pub fn set_brightness(mut self, scale: f32) -> Outcome
+        ensures { λ r. ⌜ CallAs self (Call.control (Control.brightness scale)) r ⌝ }
+    {
+        let number = barred(self.well_formed(), self.frames);
+        if number != 0 {
+            return refused(self, number);
+        }
+        let least = float32::max(scale, 0.01);
+        self.brightness = least;
+        let cut = self.table
+            .change_all(VoiceChange::Copies(CopyChange::Cutoff(least)));
+        self.table = cut;
+        answered(Reply::Done, self)
+    }
+
+    // Mono: the voice falls back to the newest note still held, or goes off where none is.
+    fn mono_note_off(mut self, note: u8) -> Outcome
+        requires { ⌜ barredBy self ≡ 0 ⌝ }
+        ensures { λ r. ⌜ Gives (monoOff (view self) note) r ⌝ }
+    {
+        let rest = self.held.without(note);
+        if rest.count == self.held.count {
+            return answered(Reply::Off(false), self);
+        }
+        self.held = rest;
+        if rest.count == 0 {
+            let off = self.table
+                .change_all(VoiceChange::OffSounding(self.sustain));
+            self.table = off;
+            return answered(Reply::Off(true), self);
+        }
+        let place = self.table.find_first(VoiceTest::Sounding);
+        let aimed = self.table.change_at(
+            place,
+            VoiceChange::AimAt(rest.newest(), self.design.glide),
+        );
+        self.table = aimed;
+        answered(Reply::Off(true), self)
+    }
+
+    // The newest voice of the note goes off.
+    pub fn note_off(mut self, note: u8) -> Outcome
+        ensures { λ r. ⌜ CallAs self (Call.control (Control.noteOff note)) r ⌝ }
+    {
+        let number = barred(self.well_formed(), self.frames);
+        if number != 0 {
+            return refused(self, number);
+        }
+        let design = self.design;
+        let mode = design.mode;
+        if let PlayMode::Mono { legato: _ } = mode {
+            return self.mono_note_off(note);
+        }
+        let place = self.table.find_last(VoiceTest::Plays(note));
+        if self.table.count <= place {
+            return answered(Reply::Off(false), self);
+        }
+        let off = self.table.change_at(place, VoiceChange::Off(self.sustain));
+        self.table = off;
+        answered(Reply::Off(true), self)
+    }
+
+    // A new handle, with a voice where one was built; for the voice room is made.
+    fn spawn_voice(mut self, note: u8, velocity: f32, built: bool) -> Outcome
+        requires { ⌜ (counted self ≡ true) × (isAccepted (self .design) ≡ true) × (self .«next_handle» < lastHandle) ⌝ }
+        ensures { λ r. ⌜ Gives (newNote (view self) (view self .held) note velocity built) r ⌝ }
+    {
+        let handle = self.next_handle;
+        self.next_handle = handle + 1;
+        if !built {
+            return answered(Reply::Silent(handle), self);
+        }
+        let design = self.design;
+        let voice = new_voice(design, self.bend, self.brightness, handle, note, velocity);
+        let max = design.max_voices as usize;
+        let mut table = self.table;
+        let mut killed: u64 = 0;
+        if max <= table.count_of(VoiceTest::Sounding) {
+            let victim = table.quietest_sounding();
+            killed = table.handle_at(victim);
+            table = table.change_at(victim, VoiceChange::Kill);
+        }
+        let mut taken: u64 = 0;
+        if 2 * max <= table.count {
+            let victim = table.quietest();
+            taken = table.handle_at(victim);
+            table = table.remove(victim);
+        }
+        let after = table.push(voice);
+        self.table = after;
+        answered(Reply::Started(handle, killed, taken), self)
+    }
+
+    // Mono: the voice that sounds goes on with the note, else a new one is due.
+    fn mono_note_on(mut self, note: u8, velocity: f32, built: bool, legato: bool) -> Outcome
+        requires { ⌜ barredBy self ≡ 0 ⌝ }
+        ensures { λ r. ⌜ OnAs self (newHandleIn (Mono legato) (view self)) (monoOn (view self) legato note velocity built) r ⌝ }
+    {
+        let with = self.held.with(note);
+        let place = self.table.find_first(VoiceTest::Sounding);
+        if place < self.table.count {
+            let handle = self.table.handle_at(place);
+            let change = VoiceChange::Keep(note, self.design.glide, legato, velocity);
+            let kept = self.table.change_at(place, change);
+            self.held = with;
+            self.table = kept;
+            return answered(Reply::Kept(handle), self);
+        }
+        if self.next_handle == 0xffff_ffff_ffff_ffff {
+            return refused(self, 8);
+        }
+        self.held = with;
+        self.spawn_voice(note, velocity, built)
+    }
+
+    // Starts a note, or goes on with the Mono voice; at velocity 0 it is a note-off.
+    pub fn note_on(self, note: u8, velocity: f32, built: bool) -> Outcome
         ensures { λ r. ⌜ CallAs self (Call.noteOn note velocity built) r ⌝ }
     {
         let level = velocity_of(velocity);
         if level == 0.0 {
             return self.note_off(note);
         }
-        let frames = self.frames;
-        self.frames = 0;
-        let design = self.design;
-        let next = self.next_handle;
-        let vs = self.voices;
-        let seen = survey_of(vs, self.voice_count, next, design.copies() as usize);
-        let number = self.barred(self.formed_by(seen.looked), frames);
+        let number = barred(self.well_formed(), self.frames);
         if number != 0 {
-            return refused(self, frames, number);
+            return refused(self, number);
         }
-        let on = self.on_of(seen, note, level, built);
-        if on.spent {
-            return refused(self, frames, 8);
+        let design = self.design;
+        let mode = design.mode;
+        if let PlayMode::Mono { legato } = mode {
+            return self.mono_note_on(note, level, built, legato);
         }
-        let notes = self.held;
-        let held = held_on(design, notes, self.held_count, note);
-        let k = on.place;
-        let change = on.change;
-        if k < self.voice_count {
-            self.voices[k] = self.voices[k].changed(change);
+        if self.next_handle == 0xffff_ffff_ffff_ffff {
+            return refused(self, 8);
         }
-        let mut i = on.taken + 1;
-        while i < self.voice_count {
-            self.voices[i - 1] = self.voices[i];
-            i += 1;
+        self.spawn_voice(note, level, built)
+    }
+
+    // Whether a handle is in the table.
+    pub fn is_active(self, handle: u64) -> Answer
+        ensures { λ a. ⌜ answerOf a ≡ askedOf self (isActive (view self) handle) ⌝ }
+    {
+        if !self.well_formed() {
+            return Answer::Refused(1);
         }
-        if on.adds {
-            let v = new_voice(design, self.bend, self.brightness, next, note, level);
-            self.voices[on.count - 1] = v;
+        let place = self.table.find_first(VoiceTest::Handle(handle));
+        Answer::Active(place < self.table.count)
+    }
+
+    // How many voices are in the table.
+    pub fn active_voices(self) -> Answer
+        ensures { λ a. ⌜ answerOf a ≡ askedOf self (activeVoices (view self)) ⌝ }
+    {
+        if !self.well_formed() {
+            return Answer::Refused(1);
         }
-        settled(self, on, held)
+        Answer::Voices(self.table.count)
+    }
+
+    // Some voice of a note that is not releasing.
+    pub fn voice_of(self, note: u8) -> Answer
+        ensures { λ a. ⌜ VoiceAs self note a ⌝ }
+    {
+        if !self.well_formed() {
+            return Answer::Refused(1);
+        }
+        let place = self.table.find_first(VoiceTest::SoundsNote(note));
+        if self.table.count <= place {
+            return Answer::NoHandle;
+        }
+        Answer::Handle(self.table.handle_at(place))
     }
 }

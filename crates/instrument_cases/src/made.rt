@@ -4,8 +4,8 @@ use design::InstrumentDesign;
 use envelope::EnvGen;
 use envelope::Stage;
 use instrument::Instrument;
-use lines::Form;
 use note::Note;
+use patterns::Form;
 use voice::Voice;
 
 // The number of forms below.
@@ -15,7 +15,7 @@ pub const NONE: usize = 13;
 // max, rate and glide of the design; a voice more of note 60; of the last voice the flag `releasing`, the stage and the
 // number of copies.
 pub fn read(line: &[u8]) -> Form {
-    lines::read(
+    patterns::read(
         line,
         b"(next H)\n(frames D)\n(table D)\n(held D)\n(same)\n(each)\n(max D)\n(rate D)\n(glide W)\n(voice H F)\n(flag F)\n(idle)\n(unison D)\n",
     )
@@ -25,39 +25,43 @@ fn counted(mut s: Instrument, number: usize, n: u64) -> Instrument {
     match number {
         0 => s.next_handle = n,
         1 => s.frames = n as usize,
-        2 => s.voice_count = n as usize,
-        _ => s.held_count = n as usize,
+        2 => s.table.count = n as usize,
+        _ => s.held.count = n as usize,
     }
     s
 }
 
 // The notes from 0 to 255.
 fn each_note() -> [Note; 256] {
-    let mut held = [Note(0); 256];
+    let mut notes = [Note(0); 256];
     let mut i: usize = 0;
     while i < 256 {
-        held[i] = Note(i as u8);
+        notes[i] = Note(i as u8);
         i += 1;
     }
-    held
+    notes
 }
 
-fn notes(mut s: Instrument, number: usize) -> Instrument {
+fn notes(number: usize) -> [Note; 256] {
     if number == 5 {
-        let held = each_note();
-        s.held = held;
-        return s;
+        return each_note();
     }
-    let held = [Note(60); 256];
+    [Note(60); 256]
+}
+
+fn holding(mut s: Instrument, number: usize) -> Instrument {
+    let mut held = s.held;
+    let these = notes(number);
+    held.notes = these;
     s.held = held;
     s
 }
 
 fn designed(mut d: InstrumentDesign, number: usize, n: u64) -> InstrumentDesign {
     match number {
-        6 => d.max_voices = lines::word_of(n),
-        7 => d.sample_rate = lines::word_of(n),
-        _ => d.glide = lines::float_of(n),
+        6 => d.max_voices = patterns::word_of(n),
+        7 => d.sample_rate = patterns::word_of(n),
+        _ => d.glide = patterns::float_of(n),
     }
     d
 }
@@ -82,10 +86,9 @@ fn voice(design: InstrumentDesign, handle: u64, releases: u64) -> Voice {
 }
 
 fn with(mut s: Instrument, v: Voice) -> Instrument {
-    let n = s.voice_count;
-    if n < 64 {
-        s.voices[n] = v;
-        s.voice_count = n + 1;
+    if s.table.count < 64 {
+        let table = s.table.push(v);
+        s.table = table;
     }
     s
 }
@@ -118,15 +121,17 @@ fn changed(mut v: Voice, number: usize, n: u64) -> Voice {
 }
 
 fn last_changed(mut s: Instrument, number: usize, n: u64) -> Instrument {
-    let count = s.voice_count;
+    let mut table = s.table;
+    let count = table.count;
     if count == 0 {
         return s;
     }
     if count > 64 {
         return s;
     }
-    let v = changed(s.voices[count - 1], number, n);
-    s.voices[count - 1] = v;
+    let v = changed(table.voices[count - 1], number, n);
+    table.voices[count - 1] = v;
+    s.table = table;
     s
 }
 
@@ -136,7 +141,7 @@ pub fn made(s: Instrument, form: Form) -> Instrument {
     let k = form.number;
     match k {
         0..=3 => counted(s, k, v[0]),
-        4..=5 => notes(s, k),
+        4..=5 => holding(s, k),
         6..=8 => redesigned(s, k, v[0]),
         9 => with(s, voice(s.design, v[0], v[1])),
         _ => last_changed(s, k, v[0]),

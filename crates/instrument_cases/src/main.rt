@@ -51,7 +51,7 @@ fn check(s: Session, t: Session, line: &[u8], out: &[u8]) {
     if !begins(out, b"(refused ") {
         return;
     }
-    if !same::same(s.instrument, t.instrument) {
+    if !equal_states::equal(s.instrument, t.instrument) {
         io::write_all(STDOUT_FILENO, b"(changed)\n");
     }
 }

@@ -27,17 +27,20 @@ use Rattle.lists.specs.Found.{find-passes, find-missed}
 use Rattle.lists.specs.Perms.{times, times-append}
 use Rattle.lists.specs.Places.{count-kept, kept-none}
 use Rattle.model.specs.Types.{Voice, Model, Call, Reply, noVoice}
-use Rattle.model.specs.Types.{Call.noteOn, Call.noteOff, Call.pedal, Call.bend, Call.brightness, Call.release, Call.allOff, Call.plan, Call.mix}
+use Rattle.model.specs.Types.{Call.noteOn, Call.control, Call.plan, Call.mix}
+use Rattle.model.specs.Types.{Control}
+use Rattle.model.specs.Types.{Control.noteOff, Control.pedal, Control.bend, Control.brightness, Control.release, Control.allOff}
 use Rattle.model.specs.Types.{Reply.kept as keeps, Reply.off, Reply.done, Reply.released, Reply.planned, Reply.mixed, Reply.refused}
 use Rattle.model.specs.Changes.{placed, tuned, moved, blocked}
 use Rattle.model.specs.Voices.{withVoice, releasedVoice, withSustained, aimedAt, struckAgain, withCopies, aged, agedVoice, sounding, isEnded, isPlace, firstSounding, placeOf}
 use Rattle.model.specs.Formed.{framesFit, blockFits}
-use Rattle.model.specs.Notes.{offVoice, newestOf, polyOff, heldWithout, notHeld, noneHeld, fallenBack, monoOff, noteOffIn, noteOffOf, velocityOf, isOff, startedNote, silentNote, newNote, heldWith, keptVoice, keptNote, goesOn, monoOn, noteOnIn, noteOnOf}
+use Rattle.model.specs.Notes.{offVoice, newestOf, polyOff, heldWithout, notHeld, noneHeld, fallenBack, monoOff, noteOffIn, noteOffOf}
+use Rattle.model.specs.Notes.{velocityOf, isOff, startedNote, silentNote, newNote, heldWith, keptVoice, keptNote, goesOn, monoOn, noteOnIn, noteOnOf}
 use Rattle.model.specs.Controls.{liftedVoice, pedalOf, releaseOf, allOffOf, bendOf, brightnessOf}
 use Rattle.model.specs.Plan.{wobbled, applied, modulatedBy, opened, planOf}
 use Rattle.model.specs.Mix.{played, remaining, endedHandles, report, mixOf}
-use Rattle.model.specs.Step.{refusal, accepted, step}
-use Rattle.model.specs.Runs.{issuedBy, silentBy, takenBy, killedBy, endedBy, isStarted}
+use Rattle.model.specs.Step.{refusal, controlled, accepted, step}
+use Rattle.model.specs.Runs.{ending, nothing, noted}
 use Rattle.model.specs.Account.{isNoteOn}
 use Rattle.model.proofs.Steady.{steady-on, steady-aged}
 use Rattle.model.proofs.Moves.{Tame, tame-refl, Goes, goes-same, goes-map, goes-set, goes-changed, goes-mix, Leaves, gone, leaves-then}
@@ -185,14 +188,13 @@ module _ (m : Model) (c : Call) (g : Good m) where
   tidy-mono t legato e d h f = record { heldOnce = h; polyHeld = λ p. let q : isPoly (m .design .mode) ≡ true = rw d at p in absurd (clash (isPoly (m .design .mode)) q (rw e)); framed = f }
 
   -- a refusal, or a reply with nothing done
-  still : (r : Reply) (lent : List Float) → issuedBy r ≡ [] → silentBy r ≡ [] → takenBy r ≡ [] → killedBy r ≡ [] → endedBy r ≡ [] → isStarted r ≡ false
-      → Step m c (record { reply = r; model = m; lent = lent })
-  still r lent i q k x e f = plain m c g r m lent [] refl refl i q k x e f (gone (goes-same (m .voices))) (g .tidy)
+  still : (r : Reply) (lent : List Float) → noted r ≡ nothing → Step m c (record { reply = r; model = m; lent = lent })
+  still r lent e = plain m c g r m lent [] refl refl e (gone (goes-same (m .voices))) (g .tidy)
 
   -- a change of all voices
   all-step : (f : Voice → Voice) → ((v : Voice) → Tame v (f v)) → (t : Model) (lent : List Float) → t .design ≡ m .design → t .next ≡ m .next → t .voices ≡ map f (m .voices) → Tidy t
       → Step m c (record { reply = done; model = t; lent = lent })
-  all-step f h t lent d n v y = plain m c g done t lent [] d n refl refl refl refl refl refl (rw v (gone (goes-map f h (m .voices)))) y
+  all-step f h t lent d n v y = plain m c g done t lent [] d n refl (rw v (gone (goes-map f h (m .voices)))) y
 
   newNote-step : (held : List ℕ) (n : ℕ) (x : Float) (built : Bool) → isNoteOn c ≡ true → (isPoly (m .design .mode) ≡ false → count sounding (m .voices) ≡ 0)
       → ((vs : List Voice) → Tidy (placed m vs (suc (m .next)) (m .pedal) held)) → Step m c (newNote m held n x built)
@@ -206,9 +208,9 @@ module _ (m : Model) (c : Call) (g : Good m) where
   unfolding polyOff placed
   polyOff-step n =
       chosen (Step m c) (isPlace (newestOf n (m .voices)) (m .voices)) _ _
-      (λ _. plain m c g (off true) _ _ [] refl refl refl refl refl refl refl refl
+      (λ _. plain m c g (off true) _ _ [] refl refl refl
       (gone (goes-changed (offVoice (m .pedal)) (tame-off (m .pedal)) (newestOf n (m .voices)) (m .voices))) (tidy-same _ refl refl (g .tidy .framed)))
-      (λ _. still (off false) _ refl refl refl refl refl refl)
+      (λ _. still (off false) _ refl)
 
   fall-goes : (held : List ℕ) → Goes (m .voices) (fallenBack m held) []
   unfolding fallenBack
@@ -221,8 +223,8 @@ module _ (m : Model) (c : Call) (g : Good m) where
   unfolding monoOff placed
   monoOff-step legato e n =
       chosen (Step m c) (notHeld n (m .held)) _ _
-      (λ _. still (off false) _ refl refl refl refl refl refl)
-      (λ _. plain m c g (off true) _ _ [] refl refl refl refl refl refl refl refl (gone (fall-goes (heldWithout n (m .held))))
+      (λ _. still (off false) _ refl)
+      (λ _. plain m c g (off true) _ _ [] refl refl refl (gone (fall-goes (heldWithout n (m .held))))
       (tidy-mono _ legato e refl (without-once n (m .held) (g .tidy .heldOnce)) (g .tidy .framed)))
 
   noteOffIn-step : (n : ℕ) (p : PlayMode) → m .design .mode ≡ p → Step m c (noteOffIn p m n)
@@ -237,7 +239,7 @@ module _ (m : Model) (c : Call) (g : Good m) where
   unfolding monoOn keptNote placed
   monoOn-step legato p n x built e =
       chosen (Step m c) (goesOn m) _ _
-      (λ q. plain m c g (keeps _) (keptNote m legato n x .model) _ [] refl refl refl refl refl refl refl refl
+      (λ q. plain m c g (keeps _) (keptNote m legato n x .model) _ [] refl refl refl
       (gone (goes-set (m .voices) (firstSounding (m .voices)) _ (tame-kept (m .design .glide) legato n x _ (goes-on m q))))
       (tidy-mono _ legato p refl (with-once n (m .held) (g .tidy .heldOnce)) (g .tidy .framed)))
       (λ q. newNote-step (heldWith n (m .held)) n x built e (λ _. none-sounds m q)
@@ -257,7 +259,7 @@ module _ (m : Model) (c : Call) (g : Good m) where
   pedal-step : (down : Bool) → Step m c (pedalOf m down)
   unfolding pedalOf placed
   pedal-step down =
-      plain m c g done _ _ [] refl refl refl refl refl refl refl refl
+      plain m c g done _ _ [] refl refl refl
       (chosen (λ (vs : List Voice). Leaves (m .voices) vs []) down _ _ (λ _. gone (goes-same (m .voices))) (λ _. gone (goes-map liftedVoice tame-lifted (m .voices))))
       (tidy-same _ refl refl (g .tidy .framed))
 
@@ -265,9 +267,9 @@ module _ (m : Model) (c : Call) (g : Good m) where
   unfolding releaseOf placed
   release-step h =
       chosen (Step m c) (isPlace (placeOf h (m .voices)) (m .voices)) _ _
-      (λ _. plain m c g (released true) _ _ [] refl refl refl refl refl refl refl refl
+      (λ _. plain m c g (released true) _ _ [] refl refl refl
       (gone (goes-changed releasedVoice tame-released (placeOf h (m .voices)) (m .voices))) (tidy-same _ refl refl (g .tidy .framed)))
-      (λ _. still (released false) _ refl refl refl refl refl refl)
+      (λ _. still (released false) _ refl)
 
   allOff-step : Step m c (allOffOf m)
   unfolding allOffOf placed
@@ -285,14 +287,14 @@ module _ (m : Model) (c : Call) (g : Good m) where
   mix-step : (samples : List Float) → Step m c (mixOf m samples)
   unfolding mixOf played remaining endedHandles report blocked
   mix-step samples =
-      plain m c g (mixed _ _) _ _ _ refl refl refl refl refl refl (take-append-seam _ _) refl
+      plain m c g (mixed _ _) _ _ _ refl refl (ap ending (take-append-seam _ _))
       (gone (goes-mix (agedVoice (m .frames)) isEnded (aged-handle (m .frames)) (tame-aged (m .frames)) (m .voices)))
       (tidy-same _ refl refl (block-none (m .design)))
 
   opened-step : (t : Model) (n : ℕ) → framesFit (m .design) n ≡ true → t .design ≡ m .design → t .next ≡ m .next → t .held ≡ m .held → Goes (m .voices) (t .voices) [] → Step m c (opened t n)
   unfolding opened blocked
   opened-step t n f d e h l =
-      plain m c g planned _ _ [] d e refl refl refl refl refl refl
+      plain m c g planned _ _ [] d e refl
       (leaves-then (gone l) (gone (goes-map _ (tame-copies (glided n)) (t .voices))))
       (tidy-same _ d h (rw d (block-frames (m .design) n f)))
 
@@ -305,18 +307,21 @@ module _ (m : Model) (c : Call) (g : Good m) where
 
 -- ---- each
 
+control-step : (m : Model) (x : Control) → Good m → Step m (control x) (controlled m x)
+control-step m (noteOff n) g = noteOff-step m _ g n
+control-step m (pedal down) g = pedal-step m _ g down
+control-step m (bend x) g = bend-step m _ g x
+control-step m (brightness x) g = brightness-step m _ g x
+control-step m (release h) g = release-step m _ g h
+control-step m allOff g = allOff-step m _ g
+
 accepted-step : (m : Model) (c : Call) → Good m → refusal m c ≡ 0 → Step m c (accepted m c)
 accepted-step m (noteOn n v built) g e = noteOn-step m _ g n v built refl
-accepted-step m (noteOff n) g e = noteOff-step m _ g n
-accepted-step m (pedal down) g e = pedal-step m _ g down
-accepted-step m (bend x) g e = bend-step m _ g x
-accepted-step m (brightness x) g e = brightness-step m _ g x
-accepted-step m (release h) g e = release-step m _ g h
-accepted-step m allOff g e = allOff-step m _ g
+accepted-step m (control x) g e = control-step m x g
 accepted-step m (plan n vibrato filter sine curve) g e = plan-step m _ g n vibrato filter sine (not-false _ (passes m (plan n vibrato filter sine curve) e .frames))
 accepted-step m (mix samples out) g e = mix-step m _ g samples
 
 pub each : (m : Model) (c : Call) → Good m → Step m c (step m c)
 unfolding step
 each m c g =
-    chosen (Step m c) (eqb (refusal m c) 0) _ _ (λ e. accepted-step m c g (eqb-true _ _ e)) (λ _. still m c g (refused (refusal m c)) _ refl refl refl refl refl refl)
+    chosen (Step m c) (eqb (refusal m c) 0) _ _ (λ e. accepted-step m c g (eqb-true _ _ e)) (λ _. still m c g (refused (refusal m c)) _ refl)

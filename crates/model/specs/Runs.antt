@@ -20,81 +20,59 @@ abbrev pub replies : Model → List Call → List Reply
 replies m [] = []
 replies m (c ∷ cs) = step m c .reply ∷ replies (step m c .model) cs
 
--- a note-on starts a voice "when it replies started"
-abbrev pub isStarted : Reply → Bool
-isStarted (started h k t) = true
-isStarted (silent h) = false
-isStarted (keeps h) = false
-isStarted (off f) = false
-isStarted done = false
-isStarted (released f) = false
-isStarted planned = false
-isStarted (mixed n l) = false
-isStarted (refused n) = false
-
--- "the handles of the started and silent replies"
-abbrev pub issuedBy : Reply → List ℕ
-issuedBy (started h k t) = h ∷ []
-issuedBy (silent h) = h ∷ []
-issuedBy (keeps h) = []
-issuedBy (off f) = []
-issuedBy done = []
-issuedBy (released f) = []
-issuedBy planned = []
-issuedBy (mixed n l) = []
-issuedBy (refused n) = []
-
--- "those of the silent replies"
-abbrev pub silentBy : Reply → List ℕ
-silentBy (started h k t) = []
-silentBy (silent h) = h ∷ []
-silentBy (keeps h) = []
-silentBy (off f) = []
-silentBy done = []
-silentBy (released f) = []
-silentBy planned = []
-silentBy (mixed n l) = []
-silentBy (refused n) = []
-
 -- a handle that a reply names: "0 left aside"
 abbrev pub named : ℕ → List ℕ
 named zero = []
 named (suc h) = suc h ∷ []
 
--- "those that a started reply names so"
+-- what a reply says of handles
+pub record Noted : Type 0 where
+  -- a note-on starts a voice "when it replies started"
+  pub starts : Bool
+  -- "the handles of the started and silent replies", and "those of the silent replies"
+  pub issued : List ℕ
+  pub silent : List ℕ
+  -- "those that a started reply names so"
+  pub taken : List ℕ
+  pub killed : List ℕ
+  -- "those within the count of an accepted Mix's report"
+  pub ended : List ℕ
+
+-- of these voices that they ended, and nothing else
+abbrev pub ending : List ℕ → Noted
+ending l = record { starts = false; issued = []; silent = []; taken = []; killed = []; ended = l }
+
+abbrev pub nothing : Noted
+nothing = ending []
+
+abbrev pub noted : Reply → Noted
+noted (started h k t) = record { starts = true; issued = h ∷ []; silent = []; taken = named t; killed = named k; ended = [] }
+noted (silent h) = record { starts = false; issued = h ∷ []; silent = h ∷ []; taken = []; killed = []; ended = [] }
+noted (keeps h) = nothing
+noted (off f) = nothing
+noted done = nothing
+noted (released f) = nothing
+noted planned = nothing
+noted (mixed n l) = ending (take n l)
+noted (refused n) = nothing
+
+abbrev pub isStarted : Reply → Bool
+isStarted r = noted r .starts
+
+abbrev pub issuedBy : Reply → List ℕ
+issuedBy r = noted r .issued
+
+abbrev pub silentBy : Reply → List ℕ
+silentBy r = noted r .silent
+
 abbrev pub takenBy : Reply → List ℕ
-takenBy (started h k t) = named t
-takenBy (silent h) = []
-takenBy (keeps h) = []
-takenBy (off f) = []
-takenBy done = []
-takenBy (released f) = []
-takenBy planned = []
-takenBy (mixed n l) = []
-takenBy (refused n) = []
+takenBy r = noted r .taken
 
 abbrev pub killedBy : Reply → List ℕ
-killedBy (started h k t) = named k
-killedBy (silent h) = []
-killedBy (keeps h) = []
-killedBy (off f) = []
-killedBy done = []
-killedBy (released f) = []
-killedBy planned = []
-killedBy (mixed n l) = []
-killedBy (refused n) = []
+killedBy r = noted r .killed
 
--- "those within the count of an accepted Mix's report"
 abbrev pub endedBy : Reply → List ℕ
-endedBy (started h k t) = []
-endedBy (silent h) = []
-endedBy (keeps h) = []
-endedBy (off f) = []
-endedBy done = []
-endedBy (released f) = []
-endedBy planned = []
-endedBy (mixed n l) = take n l
-endedBy (refused n) = []
+endedBy r = noted r .ended
 
 -- of a list of calls from a state
 module _ (m : Model) (cs : List Call) where

@@ -34,16 +34,21 @@ pub record Model : Type 0 where
   pub held : List ℕ
   pub frames : ℕ
 
--- note-on: note, velocity, whether the copies were built; note-off: note; pedal: down; bend: factor; brightness: scale; release: handle;
+-- the calls that change voices or a controller and reply at once: they lend nothing, and are due no handle
+-- note-off: note; pedal: down; bend: factor; brightness: scale; release: handle
+pub data Control : Type 0 where
+  noteOff : ℕ → Control
+  pedal : Bool → Control
+  bend : Float → Control
+  brightness : Float → Control
+  release : ℕ → Control
+  allOff : Control
+
+-- note-on: note, velocity, whether the copies were built;
 -- Plan: frames, vibrato factor, filter factor, tremolo sine, the lent curve; Mix: the lent samples, the lent output
 pub data Call : Type 0 where
   noteOn : ℕ → Float → Bool → Call
-  noteOff : ℕ → Call
-  pedal : Bool → Call
-  bend : Float → Call
-  brightness : Float → Call
-  release : ℕ → Call
-  allOff : Call
+  control : Control → Call
   plan : ℕ → Float → Float → Float → List Float → Call
   mix : List Float → List Float → Call
 
@@ -77,18 +82,6 @@ numberOf (released f) = 0
 numberOf planned = 0
 numberOf (mixed n l) = 0
 numberOf (refused n) = n
-
--- the handle that a note-on gives: "At 0 it is a note-off; handle 0"
-abbrev pub handleOf : Reply → ℕ
-handleOf (started h k t) = h
-handleOf (silent h) = h
-handleOf (kept h) = h
-handleOf (off f) = 0
-handleOf done = 0
-handleOf (released f) = 0
-handleOf planned = 0
-handleOf (mixed n l) = 0
-handleOf (refused n) = 0
 
 -- what stands past the end of a table
 abbrev pub noEnvelope : EnvGen

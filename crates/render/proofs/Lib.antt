@@ -1,3 +1,2 @@
-pub mod Retaining
 pub mod Parts
 pub mod Turns

@@ -1,11 +1,13 @@
 -- What a voice adds to the mix, and what is written of the sums (document 01, "Copies, Plan and Mix": `render_block` in its order).
 use mathlib.Core.Path.{_≡_}
+use mathlib.Core.Bool.{Bool, not, _||_}
 use mathlib.Core.List.{List}
 use Prim.Native.Nat.{ℕ, _+_, _*_, _≤_}
 use lib.Ieee.{Float}
 use lib.ListN.{length, take, drop}
 use Rattle.stream.specs.declared.UnisonCopy.{UnisonCopy}
 use Rattle.envelope.specs.declared.EnvGen.{EnvGen}
+use Rattle.envelope.specs.Gates.{isActive, isFaded}
 use Rattle.model.specs.Voices.{aged}
 use Rattle.model.specs.Mix.{mixing, sideVoice, interleave, onLeft, onRight}
 use Rattle.voice.specs.declared.Voice.{Voice}
@@ -54,3 +56,7 @@ pub record FitsOut (m : ℕ) (left right out : List Float) : Type 0 where
 pub record PutAs (left right : List Float) (m : ℕ) (old new : List Float) : Type 0 where
   pub written : FitsOut m left right old → new ≡ interleave (take m left) (take m right)
   pub refused : (FitsOut m left right old → ⊥) → new ≡ old
+
+-- `retain`: a voice stays while its envelope is neither Idle nor faded
+abbrev pub goesOn : EnvGen → Bool
+goesOn env = not (not (isActive env) || isFaded env)

@@ -2,18 +2,17 @@
 // Each sum takes its terms in the order of the Rust: voice by voice, copy by copy.
 
 ghost use mathlib.Core.Path.{_≡_};
-ghost use mathlib.Core.Bool.{not};
 ghost use Prim.Native.Nat.{_+_, _*_, _≤_};
 ghost use lib.Dec.{leb};
 ghost use lib.ListN.{length, take, drop};
 ghost use Rattle.lists.specs.Prefix.{fold};
-ghost use Rattle.model.specs.Types as model;
-ghost use Rattle.model.specs.Voices.{aged, isEnded};
+ghost use Rattle.model.specs.Voices.{aged};
 ghost use Rattle.model.specs.Mix.{addSide, mixing, interleave, onLeft, onRight};
 ghost use Rattle.voice.specs.View.{shown};
 ghost use Rattle.render.specs.Parts.{row, partCopy, gains, addFour, BothSides};
-ghost use Rattle.render.specs.Mixes.{Fits, AddedAs, addedVoice, withEnv, FitsOut, PutAs};
+ghost use Rattle.render.specs.Mixes.{Fits, AddedAs, addedVoice, withEnv, FitsOut, PutAs, goesOn};
 use envelope::EnvGen;
+use lists::fills;
 use lists::smaller;
 use stream::UnisonCopy;
 use voice::Voice;
@@ -261,7 +260,7 @@ pub fn put(left: &[f32], right: &[f32], m: usize, out: &mut [f32])
     if m > right.len() {
         return;
     }
-    if !voices::fills(2, m, out.len()) {
+    if !fills(2, m, out.len()) {
         return;
     }
     put_pairs(left, right, m, out);
@@ -269,7 +268,7 @@ pub fn put(left: &[f32], right: &[f32], m: usize, out: &mut [f32])
 
 // Whether a voice goes on, by its envelope: neither run down nor faded.
 pub fn goes_on(env: EnvGen) -> bool
-    ensures { λ r. ⌜ ((v : model.Voice) → v .env ≡ env → r ≡ not (isEnded v)) ⌝ }
+    ensures { λ r. ⌜ r ≡ goesOn env ⌝ }
 {
     if !env.active() {
         return false;

@@ -5,9 +5,9 @@ use design::InstrumentDesign;
 use design::Modulation;
 use design::PlayMode;
 use forms::DesignForm;
-use lines::Form;
-use lines::float_of;
-use lines::word_of;
+use patterns::Form;
+use patterns::float_of;
+use patterns::word_of;
 
 // The places in the list of `other`: calls of the envelope below `ENVS`, calls of the instrument from there to `PLAN`.
 pub const ENVS: usize = 5;
@@ -46,7 +46,7 @@ fn other(line: &[u8]) -> Form {
     if 256 < line.len() {
         return bare(NONE);
     }
-    lines::read(
+    patterns::read(
         line,
         b"(env D W W W W)\n(gate on)\n(gate off)\n(gate kill)\n(tick D)\n(off N)\n(pedal F)\n(bend W)\n(bright W)\n(release H)\n(alloff)\n(plan D T W W W)\n(mix T D T T)\n(midi D B S)\n(active H)\n(count)\n(find N)\n(copies)\n(state)\n",
     )

@@ -6,12 +6,12 @@ use crate::said;
 use instrument::Instrument;
 use instrument::MixReply;
 use instrument::Reply;
-use lines::Form;
-use lines::byte_of;
-use lines::float_of;
-use lines::put;
-use lines::sums;
-use lines::word_of;
+use patterns::Form;
+use patterns::byte_of;
+use patterns::float_of;
+use patterns::put;
+use patterns::sums;
+use patterns::word_of;
 use text::put_literal;
 
 // All copies of so many voices, 0 beyond the size of a table.
@@ -42,7 +42,7 @@ fn wanted_by(s: Instrument, frames: usize) -> usize
     ensures { λ r. ⌜ r ≤ 524_288 ⌝ }
 {
     let design = s.design;
-    wanted(frames, rows(s.voice_count, design.copies()))
+    wanted(frames, rows(s.table.count, design.copies()))
 }
 
 // How many numbers are lent where so many are wanted.
@@ -74,7 +74,7 @@ fn each_number(out: &mut [u8], at: usize, xs: &[f32]) -> usize {
     let mut next = at;
     let mut i: usize = 0;
     while i < xs.len() {
-        next = lines::put_item(out, next, b" W", i, lines::bits(xs[i]));
+        next = patterns::put_item(out, next, b" W", i, patterns::bits(xs[i]));
         i += 1;
     }
     next
@@ -154,7 +154,7 @@ fn each_ended(out: &mut [u8], at: usize, ended: [u64; 64], n: usize) -> usize {
     let mut next = at;
     let mut i: usize = 0;
     while i < n {
-        next = lines::put_item(out, next, b" D", i, ended_at(ended, i));
+        next = patterns::put_item(out, next, b" D", i, ended_at(ended, i));
         i += 1;
     }
     next

@@ -5,9 +5,9 @@ use crate::ask::COUNT;
 use instrument::Answer;
 use instrument::Instrument;
 use instrument::Outcome;
-use lines::Form;
-use lines::byte_of;
-use lines::float_of;
+use patterns::Form;
+use patterns::byte_of;
+use patterns::float_of;
 
 pub fn called(s: Instrument, form: Form) -> Outcome {
     let v = form.values;

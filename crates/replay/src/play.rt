@@ -10,7 +10,7 @@ use crate::calls;
 use crate::said;
 use crate::show;
 use instrument::Instrument;
-use lines::Form;
+use patterns::Form;
 
 pub struct Played {
     pub state: Instrument,

@@ -4,9 +4,9 @@ use design::DesignReply;
 use envelope::EnvReply;
 use instrument::Answer;
 use instrument::Reply;
-use lines::Form;
-use lines::flag;
 use midi::Cursor;
+use patterns::Form;
+use patterns::flag;
 
 // The places in the list of `say`.
 const UNREAD: usize = 0;
@@ -52,7 +52,7 @@ const REFUSED_AT: usize = 19;
 pub const TICKED: usize = 20;
 
 pub fn say(out: &mut [u8], at: usize, form: Form) -> usize {
-    lines::put_form(
+    patterns::put_form(
         out,
         at,
         b"(unread)\n(done)\n(ready)\n(refused D)\n(started D D D)\n(silent D)\n(kept D)\n(off D)\n(released D)\n(active D)\n(count D)\n(found D)\n(on D W)\n(pedal D)\n(alloff)\n(bend D)\n(other)\n(end D B)\n(touched)\n(refused D D B)\n(ticked X D W W D)\n",
@@ -125,7 +125,7 @@ pub fn of_step(answer: midi::Answer, cursor: Cursor) -> Form {
     let place = cursor.place as u64;
     let status = cursor.status as u64;
     match answer {
-        midi::Answer::On(note, velocity) => form(ON, note as u64, lines::bits(velocity), 0),
+        midi::Answer::On(note, velocity) => form(ON, note as u64, patterns::bits(velocity), 0),
         midi::Answer::Off(note) => form(OFF, note as u64, 0, 0),
         midi::Answer::Pedal(down) => form(PEDAL, flag(down), 0, 0),
         midi::Answer::AllOff => form(ALL_OFF, 0, 0, 0),

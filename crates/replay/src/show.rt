@@ -8,7 +8,7 @@ use crate::calls;
 use crate::said;
 use crate::steps;
 use instrument::Instrument;
-use lines::Form;
+use patterns::Form;
 
 // A state that is not well formed prints nothing of itself.
 fn part(out: &mut [u8], at: usize, s: Instrument, number: usize) -> usize {
@@ -16,9 +16,9 @@ fn part(out: &mut [u8], at: usize, s: Instrument, number: usize) -> usize {
         return said::say(out, at, said::refused(1));
     }
     if number == STATE {
-        return shown::state(out, at, s);
+        return state_text::state(out, at, s);
     }
-    shown::table(out, at, s, number == COPIES)
+    state_text::table(out, at, s, number == COPIES)
 }
 
 pub fn show(s: Instrument, line: &[u8], form: Form, out: &mut [u8], at: usize) -> usize {

@@ -3,10 +3,10 @@
 ghost use mathlib.Core.Path.{_≡_};
 ghost use lib.ListN.{length};
 use crate::said;
-use lines::Form;
-use lines::byte_of;
 use midi::Answer;
 use midi::Cursor;
+use patterns::Form;
+use patterns::byte_of;
 
 fn is_last(answer: Answer) -> bool {
     match answer {
@@ -49,7 +49,7 @@ fn bytes(line: &[u8], from: usize) -> [u8; 100]
     let mut next = from;
     let mut i: usize = 0;
     while i < 100 {
-        let r = lines::pair(line, next);
+        let r = patterns::pair(line, next);
         stream[i] = byte_of(r.value);
         next = r.next;
         i += 1;

@@ -3,11 +3,11 @@
 use crate::said;
 use envelope::EnvGen;
 use envelope::Stage;
-use lines::Form;
-use lines::bits;
-use lines::float_of;
-use lines::sums;
-use lines::word_of;
+use patterns::Form;
+use patterns::bits;
+use patterns::float_of;
+use patterns::sums;
+use patterns::word_of;
 
 pub struct Gated {
     pub env: EnvGen,
@@ -50,7 +50,7 @@ fn tick(e: EnvGen, n: u32) -> Turned {
     let t = ticks(e, n);
     let env = t.env;
     let stage = env.stage;
-    let faded = lines::flag(env.faded());
+    let faded = patterns::flag(env.faded());
     let values = [
         t.sum,
         stage_number(stage),

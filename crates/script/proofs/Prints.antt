@@ -17,7 +17,7 @@ use Rattle.lists.specs.Prefix.{take-min}
 use Rattle.voice.specs.declared.Voice.{Voice}
 use Rattle.voice.specs.View.{shown, seen}
 use Rattle.voice.proofs.Sizes.{pastEnd}
-use Rattle.voices.specs.View.{seenFirst, voicesOf}
+use Rattle.table.specs.View.{seenFirst, voicesOf}
 use Rattle.forms.specs.Forms.{decimalPart, wordPart, space, close}
 use Rattle.script.specs.Answers.{rowText, rowsText, tableText, oneText, voicesWord, startedWord, openRow, closeLine}
 use Rattle.script.specs.Lines.{Puts, Printed}

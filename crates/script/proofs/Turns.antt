@@ -20,7 +20,7 @@ use Rattle.forms.specs.declared.Form.the-variants.{Design, On}
 use Rattle.forms.specs.Forms.{DesignFits, OnFits, FormAs}
 use Rattle.model.specs.Types as model
 use Rattle.model.specs.Start.{fresh}
-use Rattle.voices.specs.View.{seenFirst, voicesOf}
+use Rattle.table.specs.View.{voicesIn}
 use Rattle.instrument.specs.declared.NewInstrument.{NewInstrument}
 use Rattle.instrument.specs.declared.Outcome.{Outcome}
 use Rattle.instrument.specs.View.{view}
@@ -107,7 +107,7 @@ on-calls b s f v o old new count e h p q =
 -- ---- the table
 
 pub voices-table : (b : Bool) (s : Session) (old new : List ℕ) (count : ℕ) → b ≡ true
-    → Printed (tableText (voicesOf (seenFirst (s .state .«voice_count») (s .state .voices)))) old new count
+    → Printed (tableText (voicesIn (s .state .table))) old new count
     → VoicesDoes b s old new (record { session = s; count = count })
 unfolding view
 voices-table b s old new count e q = rw e (record { session = refl; printed = q })

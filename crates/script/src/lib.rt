@@ -6,7 +6,7 @@ ghost use lib.ListN.{length};
 ghost use mathlib.Core.Bool.{true, false};
 ghost use Rattle.lists.specs.Count.{oneIf};
 ghost use Rattle.voice.specs.View.{shown};
-ghost use Rattle.voices.specs.View.{seenFirst, voicesOf};
+ghost use Rattle.table.specs.View.{seenFirst, voicesOf};
 ghost use Rattle.instrument.specs.Calls.{replyOf};
 ghost use Rattle.instrument.specs.declared.Reply.the-variants.{Started};
 ghost use Rattle.forms.specs.Forms.{DesignFits, OnFits};
@@ -263,8 +263,9 @@ fn voices_line(s: Session, out: &mut [u8]) -> Said
         return unread(s, out);
     }
     let state = s.state;
-    let vs = state.voices;
-    let count = put_table(vs, state.voice_count, out);
+    let table = state.table;
+    let vs = table.voices;
+    let count = put_table(vs, table.count, out);
     Said { session: s, count }
 }
 

@@ -209,6 +209,7 @@ module _ (l : List ℕ) (at most : ℕ) where
     pub whole : drop at l ≡ decimalText value ++ drop next l
     pub fits : value ≤ most
     pub inside : next ≤ length l
+    pub begins : at ≤ length l
 
   read-first : (d : ℕ) → FigureAs 10 figure l at d → d < 10 → drop at l ≡ decimalText d ++ drop (at + 1) l
   read-first d f h = rw (text-one d h) (f .yes h)
@@ -220,7 +221,7 @@ module _ (l : List ℕ) (at most : ℕ) where
   none-large d f h k = none-over d (drop (at + 1) l) (read-first d f h) k
 
   pub reading-first : (d : ℕ) → FigureAs 10 figure l at d → d < 10 → d ≤ most → Reading d (at + 1)
-  reading-first d f h k = let i = f .inside h in record { whole = read-first d f h; fits = k; inside = omega arith }
+  reading-first d f h k = let i = f .inside h in record { whole = read-first d f h; fits = k; inside = omega arith; begins = omega arith }
 
   module _ (value next d : ℕ) (s : Reading value next) (f : FigureAs 10 figure l next d) where
     read-more : d < 10 → 1 ≤ value → drop at l ≡ decimalText (10 * value + d) ++ drop (next + 1) l
@@ -230,7 +231,7 @@ module _ (l : List ℕ) (at most : ℕ) where
         ∙ ap (λ (t : List ℕ). t ++ drop (next + 1) l) (sym (text-more value d p h))
 
     pub reading-more : d < 10 → 1 ≤ value → 10 * value + d ≤ most → Reading (10 * value + d) (next + 1)
-    reading-more h p k = let i = f .inside h in record { whole = read-more h p; fits = k; inside = omega arith }
+    reading-more h p k = let i = f .inside h in record { whole = read-more h p; fits = k; inside = omega arith; begins = s .begins }
 
     pub none-more : d < 10 → (1 ≤ value → most < 10 * value + d) → DecimalAs most l at (missing at)
     none-more h k = by value refl
@@ -245,7 +246,7 @@ module _ (l : List ℕ) (at most : ℕ) where
 
     pub read-done : 10 ≤ d → DecimalAs most l at (found value next)
     read-done h = record {
-      yes = λ _. record { whole = s .whole; fits = s .fits; ends = f .no h; inside = s .inside };
+      yes = λ _. record { whole = s .whole; fits = s .fits; ends = f .no h; inside = s .inside; begins = s .begins };
       no = λ e. never true refl e;
       only = λ v rest _ _ g e.
           let q = text-same value v (drop next l) rest (f .no h) g (sym (s .whole) ∙ e) in

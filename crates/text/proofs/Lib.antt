@@ -4,3 +4,4 @@ mod Words
 mod Literals
 mod Puts
 mod Spells
+mod Once

@@ -59,7 +59,7 @@ module _ (wanted l : List ℕ) (at : ℕ) where
       let r = s .room in
       let k = s .inside in
       record {
-        yes = λ _. record { whole = w; fits = refl; ends = tt; inside = omega arith };
+        yes = λ _. record { whole = w; fits = refl; ends = tt; inside = omega arith; begins = omega arith };
         no = λ e. never true refl e;
         only = λ v rest _ z _ e. record { ok = refl; value = sym z; left = append-cancel-left wanted (drop next l) rest (sym w ∙ e) };
       }

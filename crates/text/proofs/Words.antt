@@ -102,9 +102,10 @@ module _ (l : List ℕ) (at : ℕ) where
     pub whole : drop at l ≡ glyphs i value ++ drop next l
     pub small : value < room i
     pub inside : next ≤ length l
+    pub begins : at ≤ length l
 
   pub spelling-none : at ≤ length l → Spelling 0 at 0
-  spelling-none h = record { whole = refl; small = omega arith; inside = h }
+  spelling-none h = record { whole = refl; small = omega arith; inside = h; begins = h }
 
   module _ (value next i d : ℕ) (s : Spelling value next i) (f : FigureAs 16 glyph l next d) where
     pub spelling-more : d < 16 → Spelling (16 * value + d) (next + 1) (i + 1)
@@ -118,6 +119,7 @@ module _ (l : List ℕ) (at : ℕ) where
               ∙ ap (λ (t : List ℕ). t ++ drop (next + 1) l) (sym (glyphs-more i value d h));
           small = omega arith;
           inside = omega arith;
+          begins = s .begins;
         })
 
     pub word-none : i < 8 → 16 ≤ d → WordAs l at (missing at)
@@ -130,7 +132,7 @@ module _ (l : List ℕ) (at : ℕ) where
   pub word-done : (value next : ℕ) → Spelling value next 8 → WordAs l at (found value next)
   unfolding wordText
   word-done value next s = record {
-    yes = λ _. record { whole = s .whole; fits = s .small; ends = tt; inside = s .inside };
+    yes = λ _. record { whole = s .whole; fits = s .small; ends = tt; inside = s .inside; begins = s .begins };
     no = λ e. never true refl e;
     only = λ v rest _ h _ e.
         let p = parts-same (glyphs 8 value) (glyphs 8 v) (drop next l) rest (glyphs-length 8 value ∙ sym (glyphs-length 8 v)) (sym (s .whole) ∙ e) in

@@ -8,12 +8,13 @@ use Rattle.text.specs.declared.Read.{Read}
 use Rattle.text.specs.Text.{decimalText, wordText, NoneFirst, NoDigit}
 
 module _ (text : ℕ → List ℕ) (Fits : ℕ → Type 0) (Ends : List ℕ → Type 0) where
-  -- the text of v stands in the line from `at` to `next`
+  -- the text of v stands in the line from `at` to `next`; none stands behind the end, the empty text neither
   pub record Got (line : List ℕ) (at v next : ℕ) : Type 0 where
     pub whole : drop at line ≡ text v ++ drop next line
     pub fits : Fits v
     pub ends : Ends (drop next line)
     pub inside : next ≤ length line
+    pub begins : at ≤ length line
 
   -- the answer is v, with `rest` behind it
   pub record Alone (line rest : List ℕ) (v : ℕ) (r : Read) : Type 0 where

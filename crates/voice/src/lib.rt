@@ -1,19 +1,16 @@
 // One voice (the Rust's Voice): what a call may make of it and ask of it, and a new one.
 
 ghost use mathlib.Core.Path.{_≡_};
-ghost use mathlib.Core.Bool.{true};
 ghost use mathlib.Core.List.{map};
-ghost use Prim.Native.Nat.{_≤_, min};
+ghost use Prim.Native.Nat.{_≤_};
 ghost use lib.ListN.{length, take};
-ghost use Rattle.design.specs.Accepted.{isAccepted, copiesOf};
-ghost use Rattle.model.specs.Types.{Model};
-ghost use Rattle.model.specs.Voices.{releasedVoice, killedVoice, withSustained, withCopies, aimedAt, struckAgain, newVoice, firstCopies};
+ghost use Rattle.model.specs.Voices.{releasedVoice, killedVoice, withSustained, withCopies, aimedAt, struckAgain};
 ghost use Rattle.model.specs.Notes.{offVoice, plays as playsOf, keptVoice};
 ghost use Rattle.model.specs.Controls.{liftedVoice};
 ghost use Rattle.model.specs.Queries.{soundsNote};
-ghost use Rattle.stream.specs.Pitch.{bent, cutTo};
 ghost use Rattle.voice.specs.View.{shown, seen};
-ghost use Rattle.voice.specs.Changes.{copyChanged, voiceChanged, testOf, onSeen};
+ghost use Rattle.voice.specs.New.{madeCopies, copiesMade, madeVoice};
+ghost use Rattle.voice.specs.Changes.{offSounding, copyChanged, voiceChanged, testOf, onSeen};
 use design::InstrumentDesign;
 use envelope::EnvGen;
 use lists::smaller;
@@ -39,6 +36,7 @@ pub struct Voice {
 // What may be made of a copy.
 pub enum CopyChange {
     Bend(f32),
+    Cutoff(f32),
     // The pitch scale to aim at, and the coefficient.
     Aim(f32, f32),
     // The bend, then the cutoff.
@@ -48,8 +46,13 @@ pub enum CopyChange {
 // What may be made of a voice.
 pub enum VoiceChange {
     Kill,
+    Release,
+    // The pedal goes up.
+    Lift,
     // A note-off with the pedal down, or not.
     Off(bool),
+    // The same where the voice is not releasing.
+    OffSounding(bool),
     Copies(CopyChange),
     // The note to aim at, and the coefficient.
     AimAt(u8, f32),
@@ -59,6 +62,7 @@ pub enum VoiceChange {
 
 // What may be asked of a voice.
 pub enum VoiceTest {
+    Any,
     Sounding,
     Handle(u64),
     // Of the note, neither releasing nor sustained.
@@ -72,6 +76,7 @@ fn change_copy(c: UnisonCopy, change: CopyChange) -> UnisonCopy
 {
     match change {
         CopyChange::Bend(x) => c.set_bend(x),
+        CopyChange::Cutoff(x) => c.set_cutoff(x),
         CopyChange::Aim(scale, coeff) => c.glide_pitch(scale, coeff),
         CopyChange::Wobble(bend, cutoff) => c.set_bend(bend).set_cutoff(cutoff),
     }
@@ -91,7 +96,7 @@ fn change_copies(copies: [UnisonCopy; 8], count: usize, change: CopyChange) -> [
 }
 
 impl Voice {
-    pub fn released(mut self) -> Voice
+    fn released(mut self) -> Voice
         ensures { λ r. ⌜ seen r ≡ onSeen releasedVoice (seen self) ⌝ }
     {
         let env = self.env.gate_off();
@@ -128,8 +133,15 @@ impl Voice {
         }
     }
 
+    // A voice that is releasing stays as it is.
+    fn off_sounding(self, down: bool) -> Voice
+        ensures { λ r. ⌜ seen r ≡ onSeen (offSounding down) (seen self) ⌝ }
+    {
+        if self.releasing { self } else { self.off(down) }
+    }
+
     // The pedal goes up: a sustained voice is released.
-    pub fn lifted(self) -> Voice
+    fn lifted(self) -> Voice
         ensures { λ r. ⌜ seen r ≡ onSeen liftedVoice (seen self) ⌝ }
     {
         if self.sustained {
@@ -145,31 +157,6 @@ impl Voice {
         let copies = self.copies;
         let next = change_copies(copies, self.copy_count, change);
         self.copies = next;
-        self
-    }
-
-    // Every copy bent by the wheel. All eight, counted or not: a loop of known length lets a caller change a voice where it stands.
-    pub fn with_bend(mut self, mul: f32) -> Voice
-        ensures { λ r. ⌜ seen r ≡ onSeen (withCopies (bent mul)) (seen self) ⌝ }
-    {
-        let bend = float32::max(mul, 0.0);
-        let mut j: usize = 0;
-        while j < 8 {
-            self.copies[j].bend = bend;
-            j += 1;
-        }
-        self
-    }
-
-    // Every copy with another cutoff.
-    pub fn with_cutoff(mut self, scale: f32) -> Voice
-        ensures { λ r. ⌜ seen r ≡ onSeen (withCopies (cutTo scale)) (seen self) ⌝ }
-    {
-        let mut k: usize = 0;
-        while k < 8 {
-            self.copies[k] = self.copies[k].set_cutoff(scale);
-            k += 1;
-        }
         self
     }
 
@@ -207,7 +194,10 @@ impl Voice {
     {
         match change {
             VoiceChange::Kill => self.killed(),
+            VoiceChange::Release => self.released(),
+            VoiceChange::Lift => self.lifted(),
             VoiceChange::Off(down) => self.off(down),
+            VoiceChange::OffSounding(down) => self.off_sounding(down),
             VoiceChange::Copies(c) => self.with_copies(c),
             VoiceChange::AimAt(note, coeff) => self.aimed_at(note, coeff),
             VoiceChange::Keep(note, coeff, legato, velocity) => {
@@ -241,6 +231,7 @@ impl Voice {
         ensures { λ r. ⌜ r ≡ testOf test (shown self) ⌝ }
     {
         match test {
+            VoiceTest::Any => true,
             VoiceTest::Sounding => !self.releasing,
             VoiceTest::Handle(h) => self.handle == h,
             VoiceTest::Plays(note) => self.plays(note),
@@ -258,7 +249,7 @@ impl Voice {
 
 // How many copies a new voice has; an accepted design asks for no more than 8.
 fn copies_of(design: InstrumentDesign) -> u8
-    ensures { λ r. ⌜ r ≡ min (copiesOf design) 8 ⌝ }
+    ensures { λ r. ⌜ r ≡ copiesMade design ⌝ }
 {
     let n = design.copies();
     if n < 8 { n as u8 } else { 8 }
@@ -267,7 +258,7 @@ fn copies_of(design: InstrumentDesign) -> u8
 // The n copies of a new voice.
 fn new_copies(n: u8, width: f32, bend: f32, brightness: f32) -> [UnisonCopy; 8]
     requires { ⌜ n ≤ 8 ⌝ }
-    ensures { λ r. ⌜ ((m : Model) → m .design .«unison_width» ≡ width → m .bend ≡ bend → m .brightness ≡ brightness → take n r ≡ firstCopies m n n) ⌝ }
+    ensures { λ r. ⌜ take n r ≡ madeCopies width bend brightness n n ⌝ }
 {
     let first = UnisonCopy::new(0, n, width);
     let mut copies = [first; 8];
@@ -288,7 +279,7 @@ pub fn new_voice(
     note: u8,
     velocity: f32,
 ) -> Voice
-    ensures { λ r. ⌜ ((m : Model) → isAccepted design ≡ true → m .design ≡ design → m .bend ≡ bend → m .brightness ≡ brightness → m .next ≡ handle → seen r ≡ record { voice = newVoice m note velocity; count = copiesOf design }) ⌝ }
+    ensures { λ r. ⌜ seen r ≡ madeVoice design bend brightness handle note velocity ⌝ }
 {
     let n = copies_of(design);
     let copies = new_copies(n, design.unison_width, bend, brightness);

@@ -11,8 +11,8 @@ use Rattle.stream.specs.declared.UnisonCopy.{UnisonCopy}
 use Rattle.stream.specs.declared.Cutoff.the-variants.{Unset, Set}
 use Rattle.voice.specs.View.{Seen, seen}
 use Rattle.voice.specs.declared.Voice.{Voice}
-use Rattle.voices.specs.View.{seenFirst, voicesOf, inRoom}
-use Rattle.instrument.specs.View.{counted}
+use Rattle.table.specs.View.{seenIn, voicesOf, inRoom}
+use Rattle.instrument.specs.View.{roomy, counted}
 use Rattle.instrument.specs.declared.Instrument.{Instrument}
 use Rattle.wire.specs.Reads.{copyOf, cutoffOf, copyWith, copyNumbered, voiceOf, seenOf, modeNumbered, voiceNumbered, numbered}
 use Rattle.wire.specs.declared.HostCopy.{HostCopy}
@@ -72,14 +72,14 @@ pub rooms : (rs : List HostVoice) (vs : List Voice) → map voiceNumbered rs ≡
 unfolding seen
 rooms rs vs e = all-alike voiceNumbered (λ (v : Voice). leb (v .«copy_count») 8) rs vs e ∙ sym (all-map (λ (x : Seen). leb (x .count) 8) seen vs)
 
-module _ (h : HostState) (s : Instrument) (v : h .«voice_count» ≡ s .«voice_count») (k : h .«held_count» ≡ s .«held_count») where
-  pub read-counted : seenFirst (s .«voice_count») (s .voices) ≡ map seenOf (take (h .«voice_count») (h .voices)) → numbered h ≡ true → counted s ≡ true
-  unfolding counted numbered
+module _ (h : HostState) (s : Instrument) (v : h .«voice_count» ≡ s .table .count) (k : h .«held_count» ≡ s .held .count) where
+  pub read-counted : seenIn (s .table) ≡ map seenOf (take (h .«voice_count») (h .voices)) → numbered h ≡ true → counted s ≡ true
+  unfolding roomy counted numbered
   read-counted q e =
       let f = counts-of (leb (h .«voice_count») 64) (leb (h .«held_count») 256) _ _ _ e in
       rw (← v, ← k, f .0, f .1) (ap inRoom (rw (← v) at q) ∙ room-of (take (h .«voice_count») (h .voices)) (f .2))
 
   pub written-numbered : modeNumbered (h .design) ≡ true → leb (h .sustain) 1 ≡ true
-      → all voiceNumbered (take (h .«voice_count») (h .voices)) ≡ inRoom (seenFirst (s .«voice_count») (s .voices)) → numbered h ≡ counted s
-  unfolding counted numbered
+      → all voiceNumbered (take (h .«voice_count») (h .voices)) ≡ inRoom (seenIn (s .table)) → numbered h ≡ counted s
+  unfolding roomy counted numbered
   written-numbered m p q = rw (← v, ← k) (counts-alone (leb (h .«voice_count») 64) (leb (h .«held_count») 256) _ _ _ _ m p (rw (← v) at q))

@@ -4,8 +4,8 @@ ghost use mathlib.Core.Path.{_≡_};
 ghost use mathlib.Core.List.{map};
 ghost use lib.ListN.{take};
 ghost use Rattle.voice.specs.View.{seen};
-ghost use Rattle.voices.specs.View.{seenFirst};
-ghost use Rattle.formed.specs.Held.{heldFirst};
+ghost use Rattle.table.specs.View.{seenFirst};
+ghost use Rattle.held.specs.View.{heldFirst};
 ghost use Rattle.wire.specs.Reads.{modeOf, stageOf, designOf, envOf, copyOf, seenOf, ReadFrom};
 use design::Adsr;
 use design::InstrumentDesign;
@@ -13,11 +13,13 @@ use design::Modulation;
 use design::PlayMode;
 use envelope::EnvGen;
 use envelope::Stage;
+use held::Held;
 use instrument::Instrument;
 use lists::smaller;
 use note::Note;
 use stream::Cutoff;
 use stream::UnisonCopy;
+use table::Table;
 use voice::Voice;
 
 pub mod numbers;
@@ -252,8 +254,10 @@ pub fn read(h: HostState) -> Instrument
     let held = h.held;
     Instrument {
         design: read_design(design),
-        voices: read_voices(voices, h.voice_count),
-        voice_count: h.voice_count,
+        table: Table {
+            voices: read_voices(voices, h.voice_count),
+            count: h.voice_count,
+        },
         next_handle: h.next_handle,
         sustain: h.sustain != 0,
         bend: h.bend,
@@ -262,8 +266,10 @@ pub fn read(h: HostState) -> Instrument
         flt_phase: h.flt_phase,
         trem_phase: h.trem_phase,
         trem: h.trem,
-        held: read_held(held, h.held_count),
-        held_count: h.held_count,
+        held: Held {
+            notes: read_held(held, h.held_count),
+            count: h.held_count,
+        },
         frames: h.frames,
     }
 }

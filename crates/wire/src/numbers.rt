@@ -7,9 +7,10 @@ ghost use lib.Dec.{leb};
 ghost use lib.ListN.{take};
 ghost use Rattle.lists.specs.All.{all};
 ghost use Rattle.voice.specs.View.{seen};
-ghost use Rattle.voices.specs.View.{seenFirst, inRoom};
-ghost use Rattle.formed.specs.Held.{heldFirst};
-ghost use Rattle.wire.specs.Reads.{flagOf, modeOf, stageOf, designOf, envOf, copyOf, seenOf, modeNumbered, stageNumbered, copyNumbered, voiceNumbered, numbered as numberedState, WrittenFrom, copyWith};
+ghost use Rattle.table.specs.View.{seenFirst, inRoom};
+ghost use Rattle.held.specs.View.{heldFirst};
+ghost use Rattle.wire.specs.Reads.{flagOf, modeOf, stageOf, designOf, envOf, copyOf, seenOf, WrittenFrom, copyWith};
+ghost use Rattle.wire.specs.Reads.{modeNumbered, stageNumbered, copyNumbered, voiceNumbered, numbered as numberedState};
 use crate::HostCopy;
 use crate::HostDesign;
 use crate::HostEnv;
@@ -257,12 +258,14 @@ pub fn write(s: Instrument) -> HostState
     ensures { λ r. ⌜ WrittenFrom s r ⌝ }
 {
     let design = s.design;
-    let voices = s.voices;
+    let table = s.table;
+    let voices = table.voices;
     let held = s.held;
+    let notes = held.notes;
     HostState {
         design: write_design(design),
-        voices: write_voices(voices, s.voice_count),
-        voice_count: s.voice_count,
+        voices: write_voices(voices, table.count),
+        voice_count: table.count,
         next_handle: s.next_handle,
         sustain: flag_number(s.sustain),
         bend: s.bend,
@@ -271,8 +274,8 @@ pub fn write(s: Instrument) -> HostState
         flt_phase: s.flt_phase,
         trem_phase: s.trem_phase,
         trem: s.trem,
-        held: write_held(held, s.held_count),
-        held_count: s.held_count,
+        held: write_held(notes, held.count),
+        held_count: held.count,
         frames: s.frames,
     }
 }

@@ -13,7 +13,7 @@ said-refused-requires c κs = search needs
 
 returns : tie.Need-returns
 returns c =
-    let fails = (sym (c .before .before .numbered .ensures) ∙ not-true _ (c .before .if1 .taken)) in
+    let fails = sym (c .before .before .numbered .ensures) ∙ not-true _ (c .before .if1 .taken) in
     record { call = unread-call _ fails _ _ (c .said-refused .ensures); report = unread-report _ fails _; lent = unread-lent _ fails _ }
 
 read-requires : tie.Need-read-requires
@@ -30,8 +30,9 @@ same-length c = search needs
 
 returns-2 : tie.Need-returns-2
 returns-2 c =
-    let sure = (sym (c .before .before .before .before .before .before .before .numbered .ensures) ∙ not-false _ (c .before .before .before .before .before .before .if1 .left)) in
-    let from = c .before .before .before .before .before .read .ensures in
+    let r = c .before .before .before .before .before in
+    let sure = sym (r .before .before .numbered .ensures) ∙ not-false _ (r .before .if1 .left) in
+    let from = r .read .ensures in
     let m = c .before .before .before .mix .ensures in
     let o = c .mix-outcome .ensures in
     record {

@@ -12,7 +12,9 @@ unread-requires : tie.Need-unread-requires
 unread-requires c κs = search needs
 
 returns : tie.Need-returns
-returns c = record { call = unread-outcome _ (sym (c .before .before .numbered .ensures) ∙ not-true _ (c .before .if1 .taken)) _ _ (c .unread .ensures); lent = unread-lent _ (sym (c .before .before .numbered .ensures) ∙ not-true _ (c .before .if1 .taken)) _ }
+returns c =
+    let fails = sym (c .before .before .numbered .ensures) ∙ not-true _ (c .before .if1 .taken) in
+    record { call = unread-outcome _ fails _ _ (c .unread .ensures); lent = unread-lent _ fails _ }
 
 read-requires : tie.Need-read-requires
 read-requires c κs = search needs
@@ -28,8 +30,9 @@ same-length c = search needs
 
 returns-2 : tie.Need-returns-2
 returns-2 c =
-    let sure = (sym (c .before .before .before .before .before .before .before .numbered .ensures) ∙ not-false _ (c .before .before .before .before .before .before .if1 .left)) in
-    let from = c .before .before .before .before .before .read .ensures in
+    let r = c .before .before .before .before .before in
+    let sure = sym (r .before .before .numbered .ensures) ∙ not-false _ (r .before .if1 .left) in
+    let from = r .read .ensures in
     let p = c .before .before .before .plan .ensures in
     record { call = hosted _ _ sure from _ _ _ _ _ (p .call) (c .outcome .ensures); lent = p .lent ∙ same-lent _ _ sure from _ }
 

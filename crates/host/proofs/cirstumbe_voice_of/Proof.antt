@@ -24,7 +24,10 @@ said-answer-requires : tie.Need-said-answer-requires
 said-answer-requires c κs = search needs
 
 returns-2 : tie.Need-returns-2
-returns-2 c = hosted-voice _ _ (sym (c .before .before .before .before .numbered .ensures) ∙ not-false _ (c .before .before .before .if1 .left)) (c .before .before .read .ensures) _ _ _ (c .before .voice-of .ensures) (c .said-answer .ensures)
+returns-2 c =
+    let b = c .before .before .before in
+    let sure = sym (b .before .numbered .ensures) ∙ not-false _ (b .if1 .left) in
+    hosted-voice _ _ sure (c .before .before .read .ensures) _ _ _ (c .before .voice-of .ensures) (c .said-answer .ensures)
 
 pub cirstumbe-voice-of-spec : {M : Type 1} → statement M
 cirstumbe-voice-of-spec =

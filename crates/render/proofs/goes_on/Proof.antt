@@ -2,7 +2,6 @@ use mathlib.Core.Path.{_≡_, sym, _∙_}
 use mathlib.Core.Bool.{Bool, true, false, not, _||_}
 use borrow.Author.Tests.{not-true, not-false}
 use borrow.Author.Needs.{needs}
-use Rattle.model.specs.Voices.{isEnded}
 use Rattle.render.proofs.goes_on.Statement.{statement}
 use Rattle.render.proofs.goes_on.Tie as tie
 
@@ -16,15 +15,13 @@ active-requires : tie.Need-active-requires
 active-requires c κs = search needs
 
 returns : tie.Need-returns
-unfolding isEnded
-returns c = λ v e. rw e (idle _ _ (sym (c .before .active .ensures) ∙ not-true _ (c .if1 .taken)))
+returns c = idle _ _ (sym (c .before .active .ensures) ∙ not-true _ (c .if1 .taken))
 
 faded-requires : tie.Need-faded-requires
 faded-requires c κs = search needs
 
 returns-2 : tie.Need-returns-2
-unfolding isEnded
-returns-2 c = λ v e. rw e (sounds _ _ _ (sym (c .before .before .active .ensures) ∙ not-false _ (c .before .if1 .left)) (c .faded .ensures))
+returns-2 c = sounds _ _ _ (sym (c .before .before .active .ensures) ∙ not-false _ (c .before .if1 .left)) (c .faded .ensures)
 
 pub goes-on-spec : {M : Type 1} → statement M
 goes-on-spec = tie.close (tie.spec active-requires returns faded-requires returns-2)

@@ -6,10 +6,6 @@ use Rattle.script.proofs.Turns.{design-second, design-refused, design-r
 use Rattle.script.proofs.design_line.Statement.{statement}
 use Rattle.script.proofs.design_line.Tie as tie
 
--- `script::design_line` meets its contract: a second design, a refused one, an accepted one.
-
--- `script::design_line` meets its contract: a second design, a refused one, an accepted one.
-
 unread-requires : tie.Need-unread-requires
 unread-requires c κs = search needs
 
@@ -17,7 +13,11 @@ same-length : tie.Need-same-length
 same-length c = search needs
 
 returns : tie.Need-returns
-returns c = let a = c .before .before .before .before .before .before .args in design-second (a .s .ready) _ _ _ _ (c .before .before .unread .ensures) _ (c .before .before .before .before .if1 .taken)
+returns c =
+    let at-unread = c .before .before in
+    let test = at-unread .before .before in
+    let s = test .before .before in
+    design-second (s .args .s .ready) _ _ _ _ (at-unread .unread .ensures) _ (test .if1 .taken)
 
 design-of-requires : tie.Need-design-of-requires
 design-of-requires c κs = search needs
@@ -44,7 +44,17 @@ same-length-2 : tie.Need-same-length-2
 same-length-2 c = search needs
 
 returns-2 : tie.Need-returns-2
-returns-2 c = let a = c .before .before .before .before .before .before .before .before .before .before .before .before .args in design-refused (a .s .ready) (a .s) (a .f) _ (c .before .before .before .before .before .before .before .before .new .result) _ _ _ (c .before .before .before .before .before .before .before .before .before .before .if1 .left) (c .before .before .before .before .before .before .before .before .before .design-of .ensures) (c .before .before .before .before .before .before .before .before .new .ensures) _ _ (c .before .before .before .before .before .before .enum-told2 .given .1) (c .before .before .before .refusal-of .ensures) (printed _ _ _ _ (c .before .before .put-one .ensures .0) (omega (arith, c .before .before .put-one .ensures .1)) (c .before .before .before .before .before .before .before .before .before .before .before .before .pre .1))
+returns-2 c =
+    let at-put-one = c .before .before in
+    let at-refusal-of = at-put-one .before in
+    let at-enum-told2 = at-refusal-of .before .before .before in
+    let at-new = at-enum-told2 .before .before in
+    let at-design-of = at-new .before in
+    let test = at-design-of .before in
+    let s = test .before .before in
+    design-refused (s .args .s .ready) (s .args .s) (s .args .f) _ (at-new .new .result) _ _ _ (test .if1 .left) (at-design-of .design-of .ensures)
+    (at-new .new .ensures) _ _ (at-enum-told2 .enum-told2 .given .1) (at-refusal-of .refusal-of .ensures)
+    (printed _ _ _ _ (at-put-one .put-one .ensures .0) (omega (arith, at-put-one .put-one .ensures .1)) (s .pre .1))
 
 slice-aggregate-put-literal : tie.Need-slice-aggregate-put-literal
 slice-aggregate-put-literal c = search needs
@@ -56,7 +66,16 @@ same-length-3 : tie.Need-same-length-3
 same-length-3 c = search needs
 
 returns-3 : tie.Need-returns-3
-returns-3 c = let a = c .before .before .before .before .before .before .before .before .before .before .before .before .args in design-ready (a .s .ready) (a .s) (a .f) _ (c .before .before .before .before .before .before .before .before .new .result) _ _ _ (c .before .before .before .before .before .before .before .before .before .before .if1 .left) (c .before .before .before .before .before .before .before .before .before .design-of .ensures) (c .before .before .before .before .before .before .before .before .new .ensures) (c .before .before .before .before .before .before .enum-told .given .1) (printed _ _ _ _ (puts _ _ _ _ _ (c .before .before .before .put-literal .ensures)) (omega arith) (c .before .before .before .before .before .before .before .before .before .before .before .before .pre .1))
+returns-3 c =
+    let at-put-literal = c .before .before .before in
+    let at-enum-told = at-put-literal .before .before .before in
+    let at-new = at-enum-told .before .before in
+    let at-design-of = at-new .before in
+    let test = at-design-of .before in
+    let s = test .before .before in
+    design-ready (s .args .s .ready) (s .args .s) (s .args .f) _ (at-new .new .result) _ _ _ (test .if1 .left) (at-design-of .design-of .ensures)
+    (at-new .new .ensures) (at-enum-told .enum-told .given .1)
+    (printed _ _ _ _ (puts _ _ _ _ _ (at-put-literal .put-literal .ensures)) (omega arith) (s .pre .1))
 
 pub design-line-spec : {M : Type 1} → statement M
 design-line-spec =

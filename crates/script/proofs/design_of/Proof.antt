@@ -28,7 +28,13 @@ cast-t9 : tie.Need-cast-t9
 cast-t9 c = search needs
 
 returns : tie.Need-returns
-returns c = rw (c .before .before .before .before .before .before .before .mode-of .ensures, c .before .before .before .before .before .before .amp-of .ensures, c .before .before .before .before .before .modulation-of .ensures, c .before .before .before .before .float-of .ensures, c .before .before .before .float-of2 .ensures)
+returns c =
+    let at-float-of2 = c .before .before .before in
+    let at-float-of = at-float-of2 .before in
+    let at-modulation-of = at-float-of .before in
+    let at-amp-of = at-modulation-of .before in
+    let at-mode-of = at-amp-of .before in
+    rw (at-mode-of .mode-of .ensures, at-amp-of .amp-of .ensures, at-modulation-of .modulation-of .ensures, at-float-of .float-of .ensures, at-float-of2 .float-of2 .ensures)
 
 pub design-of-spec : {M : Type 1} → statement M
 design-of-spec =

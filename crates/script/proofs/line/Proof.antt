@@ -5,8 +5,6 @@ use Rattle.script.proofs.Turns.{design-fits, on-fits, line-small, line-
 use Rattle.script.proofs.line.Statement.{statement}
 use Rattle.script.proofs.line.Tie as tie
 
--- `script::line` meets its contract, form by form.
-
 returns : tie.Need-returns
 returns c = line-small _ _ _ _ _ (c .if1 .taken) refl refl refl
 
@@ -41,25 +39,45 @@ same-length : tie.Need-same-length
 same-length c = search needs
 
 returns-2 : tie.Need-returns-2
-returns-2 c = line-does _ _ _ _ _ _ _ (c .before .before .before .before .before .before .before .if1 .left) (c .before .before .before .before .before .before .read .ensures) (c .before .before .before .before .enum-told .given .1) (c .before .before .unread .ensures)
+returns-2 c =
+    let at-unread = c .before .before in
+    let at-enum-told = at-unread .before .before in
+    let at-read = at-enum-told .before .before in
+    let test = at-read .before in
+    line-does _ _ _ _ _ _ _ (test .if1 .left) (at-read .read .ensures) (at-enum-told .enum-told .given .1) (at-unread .unread .ensures)
 
 same-length-2 : tie.Need-same-length-2
 same-length-2 c = search needs
 
 returns-3 : tie.Need-returns-3
-returns-3 c = line-does _ _ _ _ _ _ _ (c .before .before .before .before .before .before .before .before .if1 .left) (c .before .before .before .before .before .before .before .read .ensures) (c .before .before .before .before .before .form .given .1) (c .before .before .design-line .ensures)
+returns-3 c =
+    let at-design-line = c .before .before in
+    let at-form = at-design-line .before .before .before in
+    let at-read = at-form .before .before in
+    let test = at-read .before in
+    line-does _ _ _ _ _ _ _ (test .if1 .left) (at-read .read .ensures) (at-form .form .given .1) (at-design-line .design-line .ensures)
 
 same-length-3 : tie.Need-same-length-3
 same-length-3 c = search needs
 
 returns-4 : tie.Need-returns-4
-returns-4 c = line-does _ _ _ _ _ _ _ (c .before .before .before .before .before .before .before .before .if1 .left) (c .before .before .before .before .before .before .before .read .ensures) (c .before .before .before .before .before .form2 .given .1) (c .before .before .on-line .ensures)
+returns-4 c =
+    let at-on-line = c .before .before in
+    let at-form2 = at-on-line .before .before .before in
+    let at-read = at-form2 .before .before in
+    let test = at-read .before in
+    line-does _ _ _ _ _ _ _ (test .if1 .left) (at-read .read .ensures) (at-form2 .form2 .given .1) (at-on-line .on-line .ensures)
 
 same-length-4 : tie.Need-same-length-4
 same-length-4 c = search needs
 
 returns-5 : tie.Need-returns-5
-returns-5 c = line-does _ _ _ _ _ _ _ (c .before .before .before .before .before .before .before .if1 .left) (c .before .before .before .before .before .before .read .ensures) (c .before .before .before .before .enum-told2 .given .1) (c .before .before .voices-line .ensures)
+returns-5 c =
+    let at-voices-line = c .before .before in
+    let at-enum-told2 = at-voices-line .before .before in
+    let at-read = at-enum-told2 .before .before in
+    let test = at-read .before in
+    line-does _ _ _ _ _ _ _ (test .if1 .left) (at-read .read .ensures) (at-enum-told2 .enum-told2 .given .1) (at-voices-line .voices-line .ensures)
 
 pub line-spec : {M : Type 1} → statement M
 line-spec =

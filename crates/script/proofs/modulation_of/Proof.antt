@@ -22,7 +22,12 @@ float-of-requires-6 : tie.Need-float-of-requires-6
 float-of-requires-6 c κs = search needs
 
 returns : tie.Need-returns
-returns c = rw (c .before .before .before .before .before .float-of .ensures, c .before .before .before .before .float-of2 .ensures, c .before .before .before .float-of3 .ensures, c .before .before .float-of4 .ensures, c .before .float-of5 .ensures, c .float-of6 .ensures)
+returns c =
+    let e = c .before .float-of5 .ensures in
+    let d = c .before .before .float-of4 .ensures in
+    let third = c .before .before .before in
+    let second = third .before in
+    rw (second .before .float-of .ensures, second .float-of2 .ensures, third .float-of3 .ensures, d, e, c .float-of6 .ensures)
 
 pub modulation-of-spec : {M : Type 1} → statement M
 modulation-of-spec =

@@ -7,10 +7,6 @@ use Rattle.script.proofs.Turns.{on-first, on-calls}
 use Rattle.script.proofs.on_line.Statement.{statement}
 use Rattle.script.proofs.on_line.Tie as tie
 
--- `script::on_line` meets its contract: before the design, and after it.
-
--- `script::on_line` meets its contract: before the design, and after it.
-
 unread-requires : tie.Need-unread-requires
 unread-requires c κs = search needs
 
@@ -18,7 +14,11 @@ same-length : tie.Need-same-length
 same-length c = search needs
 
 returns : tie.Need-returns
-returns c = let a = c .before .before .before .before .before .before .before .args in on-first (a .s .ready) _ _ _ _ (c .before .before .unread .ensures) (callOf (a .f)) (not-true _ (c .before .before .before .before .if1 .taken))
+returns c =
+    let at-unread = c .before .before in
+    let test = at-unread .before .before in
+    let s = test .before .before .before in
+    on-first (s .args .s .ready) _ _ _ _ (at-unread .unread .ensures) (callOf (s .args .f)) (not-true _ (test .if1 .taken))
 
 float-of-requires : tie.Need-float-of-requires
 float-of-requires c κs = search needs
@@ -36,7 +36,15 @@ same-length-2 : tie.Need-same-length-2
 same-length-2 c = search needs
 
 returns-2 : tie.Need-returns-2
-returns-2 c = let a = c .before .before .before .before .before .before .before .before .before .before .before .before .before .args in on-calls (a .s .ready) (a .s) (a .f) _ (c .before .before .before .before .before .note-on .result) _ _ _ (not-false _ (c .before .before .before .before .before .before .before .before .before .before .if1 .left)) (c .before .before .before .before .before .before .before .before .float-of .ensures) (c .before .before .before .before .before .note-on .ensures) (printed _ _ _ _ (c .before .before .put-reply .ensures .0) (c .before .before .put-reply .ensures .1) (c .before .before .before .before .before .before .before .before .before .before .before .before .before .pre .1))
+returns-2 c =
+    let at-put-reply = c .before .before in
+    let at-note-on = at-put-reply .before .before .before in
+    let at-float-of = at-note-on .before .before .before in
+    let test = at-float-of .before .before in
+    let s = test .before .before .before in
+    on-calls (s .args .s .ready) (s .args .s) (s .args .f) _ (at-note-on .note-on .result) _ _ _ (not-false _ (test .if1 .left))
+    (at-float-of .float-of .ensures) (at-note-on .note-on .ensures)
+    (printed _ _ _ _ (at-put-reply .put-reply .ensures .0) (at-put-reply .put-reply .ensures .1) (s .pre .1))
 
 pub on-line-spec : {M : Type 1} → statement M
 on-line-spec =

@@ -5,8 +5,6 @@ use Rattle.script.proofs.Prints.{puts, puts-then, part-length}
 use Rattle.script.proofs.put_decimal.Statement.{statement}
 use Rattle.script.proofs.put_decimal.Tie as tie
 
--- `script::put_decimal` meets its contract.
-
 put-literal-requires : tie.Need-put-literal-requires
 put-literal-requires c κs = search needs
 
@@ -17,7 +15,12 @@ same-length : tie.Need-same-length
 same-length c = search needs
 
 returns : tie.Need-returns
-returns c = (puts-then _ _ _ _ _ _ _ _ (puts _ _ _ _ _ (c .before .before .before .before .before .before .put-literal .ensures)) (puts _ _ _ _ _ (c .before .before .put-decimal .ensures)), part-length (c .before .before .before .before .before .before .before .before .before .before .args .lead .now) (c .before .before .before .before .before .before .before .before .before .before .args .n) (omega arith))
+returns c =
+    let at-put-decimal = c .before .before in
+    let at-put-literal = at-put-decimal .before .before .before .before in
+    let s = at-put-literal .before .before .before .before in
+    let all = puts-then _ _ _ _ _ _ _ _ (puts _ _ _ _ _ (at-put-literal .put-literal .ensures)) (puts _ _ _ _ _ (at-put-decimal .put-decimal .ensures)) in
+    (all, part-length (s .args .lead .now) (s .args .n) (omega arith))
 
 pub put-decimal-spec : {M : Type 1} → statement M
 put-decimal-spec =

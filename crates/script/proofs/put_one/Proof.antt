@@ -4,8 +4,6 @@ use Rattle.script.proofs.Prints.{puts, puts-then, one-length}
 use Rattle.script.proofs.put_one.Statement.{statement}
 use Rattle.script.proofs.put_one.Tie as tie
 
--- `script::put_one` meets its contract.
-
 put-decimal-requires : tie.Need-put-decimal-requires
 put-decimal-requires c κs = search needs
 
@@ -19,7 +17,12 @@ same-length : tie.Need-same-length
 same-length c = search needs
 
 returns : tie.Need-returns
-returns c = (puts-then _ _ _ _ _ _ _ _ (c .before .before .before .before .before .before .before .put-decimal .ensures .0) (puts _ _ _ _ _ (c .before .before .put-literal .ensures)), one-length (c .before .before .before .before .before .before .before .before .before .before .before .args .word .now) (c .before .before .before .before .before .before .before .before .before .before .before .args .n) (c .before .before .before .before .before .before .before .put-decimal .ensures .1))
+returns c =
+    let at-put-literal = c .before .before in
+    let at-put-decimal = at-put-literal .before .before .before .before .before in
+    let s = at-put-decimal .before .before .before .before in
+    let all = puts-then _ _ _ _ _ _ _ _ (at-put-decimal .put-decimal .ensures .0) (puts _ _ _ _ _ (at-put-literal .put-literal .ensures)) in
+    (all, one-length (s .args .word .now) (s .args .n) (at-put-decimal .put-decimal .ensures .1))
 
 pub put-one-spec : {M : Type 1} → statement M
 put-one-spec =

@@ -5,8 +5,6 @@ use Rattle.script.proofs.Prints.{puts}
 use Rattle.script.proofs.put_reply.Statement.{statement}
 use Rattle.script.proofs.put_reply.Tie as tie
 
--- `script::put_reply` meets its contract, reply by reply.
-
 enum-known-reply : tie.Need-enum-known-reply
 enum-known-reply c = search needs
 
@@ -107,7 +105,11 @@ same-length-4 : tie.Need-same-length-4
 same-length-4 c = search needs
 
 returns-4 : tie.Need-returns-4
-returns-4 c = let e = c .before .before .put-one3 .ensures in rw (c .before .before .before .before .before .before .before .reply4 .given .1, ← c .before .before .before .bit .ensures) (e .0, omega (arith, e .1))
+returns-4 c =
+    let at-put-one3 = c .before .before in
+    let at-bit = at-put-one3 .before in
+    let at-reply4 = at-bit .before .before .before .before in
+    rw (at-reply4 .reply4 .given .1, ← at-bit .bit .ensures) (at-put-one3 .put-one3 .ensures .0, omega (arith, at-put-one3 .put-one3 .ensures .1))
 
 same-length-5 : tie.Need-same-length-5
 same-length-5 c = search needs
@@ -119,7 +121,11 @@ same-length-6 : tie.Need-same-length-6
 same-length-6 c = search needs
 
 returns-6 : tie.Need-returns-6
-returns-6 c = let e = c .before .before .put-one4 .ensures in rw (c .before .before .before .before .before .before .before .reply5 .given .1, ← c .before .before .before .bit2 .ensures) (e .0, omega (arith, e .1))
+returns-6 c =
+    let at-put-one4 = c .before .before in
+    let at-bit2 = at-put-one4 .before in
+    let at-reply5 = at-bit2 .before .before .before .before in
+    rw (at-reply5 .reply5 .given .1, ← at-bit2 .bit2 .ensures) (at-put-one4 .put-one4 .ensures .0, omega (arith, at-put-one4 .put-one4 .ensures .1))
 
 same-length-7 : tie.Need-same-length-7
 same-length-7 c = search needs

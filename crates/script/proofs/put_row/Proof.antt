@@ -7,8 +7,6 @@ use Rattle.script.proofs.Prints.{puts, puts-then, row-length}
 use Rattle.script.proofs.put_row.Statement.{statement}
 use Rattle.script.proofs.put_row.Tie as tie
 
--- `script::put_row` meets its contract.
-
 slice-aggregate-put-decimal : tie.Need-slice-aggregate-put-decimal
 slice-aggregate-put-decimal c = search needs
 
@@ -59,19 +57,39 @@ put-literal-requires c κs = search needs
 
 same-length : tie.Need-same-length
 same-length c =
-    c .before .before .put-literal .kept .0 ∙ c .before .before .before .before .before .before .before .put-word .kept .0 ∙ c .before .before .before .before .before .before .before .before .before .before .before .before .before .put-decimal4 .kept .0 ∙ c .before .before .before .before .before .before .before .before .before .before .before .before .before .before .before .before .before .before .before .put-decimal3 .kept .0 ∙ c .before .before .before .before .before .before .before .before .before .before .before .before .before .before .before .before .before .before .before .before .before .before .before .before .before .put-decimal2 .kept .0 ∙ c .before .before .before .before .before .before .before .before .before .before .before .before .before .before .before .before .before .before .before .before .before .before .before .before .before .before .before .before .before .before .before .put-decimal .kept .0
+    let at-put-literal = c .before .before in
+    let at-put-word = at-put-literal .before .before .before .before .before in
+    let at-put-decimal4 = at-put-word .before .before .before .before .before .before in
+    let at-put-decimal3 = at-put-decimal4 .before .before .before .before .before .before in
+    let at-put-decimal2 = at-put-decimal3 .before .before .before .before .before .before in
+    let at-put-decimal = at-put-decimal2 .before .before .before .before .before .before in
+    at-put-literal .put-literal .kept .0
+    ∙ at-put-word .put-word .kept .0
+    ∙ at-put-decimal4 .put-decimal4 .kept .0
+    ∙ at-put-decimal3 .put-decimal3 .kept .0
+    ∙ at-put-decimal2 .put-decimal2 .kept .0
+    ∙ at-put-decimal .put-decimal .kept .0
 
 returns : tie.Need-returns
 unfolding rowText shown
-returns c = (
-  puts-then _ _ _ _ _ _ _ _ (c .before .before .before .before .before .before .before .before .before .before .before .before .before .before .before .before .before .before .before .before .before .before .before .before .before .before .before .before .before .before .before .put-decimal .ensures .0)
-      (puts-then _ _ _ _ _ _ _ _ (c .before .before .before .before .before .before .before .before .before .before .before .before .before .before .before .before .before .before .before .before .before .before .before .before .before .put-decimal2 .ensures .0)
-      (puts-then _ _ _ _ _ _ _ _ (rw (c .before .before .before .before .before .before .before .before .before .before .before .before .before .before .before .before .before .before .before .before .bit .ensures) at (c .before .before .before .before .before .before .before .before .before .before .before .before .before .before .before .before .before .before .before .put-decimal3 .ensures .0))
-      (puts-then _ _ _ _ _ _ _ _ (rw (c .before .before .before .before .before .before .before .before .before .before .before .before .before .before .bit2 .ensures) at (c .before .before .before .before .before .before .before .before .before .before .before .before .before .put-decimal4 .ensures .0))
-      (puts-then _ _ _ _ _ _ _ _ (rw (c .before .before .before .before .before .before .before .before .to-bits .ensures) at (c .before .before .before .before .before .before .before .put-word .ensures))
-      (puts _ _ _ _ _ (c .before .before .put-literal .ensures)))))),
-  row-length (shown (c .before .before .before .before .before .before .before .before .before .before .before .before .before .before .before .before .before .before .before .before .before .before .before .before .before .before .before .before .before .before .before .before .before .before .before .before .before .args .v)) (c .before .before .before .before .before .before .before .before .before .before .before .before .before .before .before .before .before .before .before .before .before .before .before .before .before .before .before .before .before .before .before .put-decimal .ensures .1) (c .before .before .before .before .before .before .before .before .before .before .before .before .before .before .before .before .before .before .before .before .before .before .before .before .before .put-decimal2 .ensures .1),
-)
+returns c =
+    let at-put-literal = c .before .before in
+    let at-put-word = at-put-literal .before .before .before .before .before in
+    let at-to-bits = at-put-word .before in
+    let at-put-decimal4 = at-to-bits .before .before .before .before .before in
+    let at-bit2 = at-put-decimal4 .before in
+    let at-put-decimal3 = at-bit2 .before .before .before .before .before in
+    let at-bit = at-put-decimal3 .before in
+    let at-put-decimal2 = at-bit .before .before .before .before .before in
+    let at-put-decimal = at-put-decimal2 .before .before .before .before .before .before in
+    let s = at-put-decimal .before .before .before .before .before .before in
+    let e = puts-then _ _ _ _ _ _ _ _ (rw (at-to-bits .to-bits .ensures) at (at-put-word .put-word .ensures)) (puts _ _ _ _ _ (at-put-literal .put-literal .ensures)) in
+    let d = puts-then _ _ _ _ _ _ _ _ (rw (at-bit2 .bit2 .ensures) at (at-put-decimal4 .put-decimal4 .ensures .0)) e in
+    let b = puts-then _ _ _ _ _ _ _ _ (rw (at-bit .bit .ensures) at (at-put-decimal3 .put-decimal3 .ensures .0)) d in
+    let a = puts-then _ _ _ _ _ _ _ _ (at-put-decimal2 .put-decimal2 .ensures .0) b in (
+      puts-then _ _ _ _ _ _ _ _ (at-put-decimal .put-decimal .ensures .0) a,
+      row-length (shown (s .args .v)) (at-put-decimal .put-decimal .ensures .1) (at-put-decimal2 .put-decimal2 .ensures .1),
+    )
 
 pub put-row-spec : {M : Type 1} → statement M
 put-row-spec =

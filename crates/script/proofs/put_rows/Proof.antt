@@ -39,25 +39,43 @@ put-row-requires : tie.Need-put-row-requires Inv-loop μ-loop
 put-row-requires c κs = search needs
 
 add-i : tie.Need-add-i Inv-loop μ-loop
-add-i c = omega (arith, c .before .before .before .before .before .before .before .before .before .before .before .before .smaller .ensures, c .before .before .before .before .before .loop-test .taken)
+add-i c =
+    let turn = c .before .before .before .before .before in
+    let at-smaller = turn .before .before .before .before .before .before .before in
+    omega (arith, at-smaller .smaller .ensures, turn .loop-test .taken)
 
 loop-less : tie.Need-loop-less Inv-loop μ-loop
 loop-less c = omega (arith, c .before .before .before .before .before .loop-test .taken)
 
 loop-again : tie.Need-loop-again Inv-loop μ-loop
 loop-again c =
-    let b = c .before .before .before .before .before .before in
-    let t = c .before .before .before .before .before .loop-test .taken in
-    let e = c .before .before .before .before .before .before .before .before .before .before .before .before .smaller .ensures in
-    let l : length (c .before .before .before .before .before .before .before .before .before .before .before .before .before .before .args .t1) ≡ 64 = c .before .before .before .before .before .before .before .before .before .before .before .before .before .before .good .0 .1 .0 .1 in
-    (omega arith, c .before .before .put-row .kept .0 ∙ b .loop .inv .1, rows-more (c .before .before .before .before .before .before .before .before .before .before .before .before .before .before .args .t1) (b .loop .i) _ _ _ _ _ _ (omega arith) (b .loop .inv .2) (c .before .before .put-row .ensures .0), rows-length-more (c .before .before .before .before .before .before .before .before .before .before .before .before .before .before .args .t1) (b .loop .i) (omega arith) (b .loop .inv .3) (c .before .before .put-row .ensures .1))
+    let row = c .before .before in
+    let turn = row .before .before .before in
+    let b = turn .before in
+    let at-smaller = b .before .before .before .before .before .before in
+    let s = at-smaller .before .before in
+    let t = turn .loop-test .taken in
+    let e = at-smaller .smaller .ensures in
+    let l : length (s .args .t1) ≡ 64 = s .good .0 .1 .0 .1 in (
+      omega arith,
+      row .put-row .kept .0 ∙ b .loop .inv .1,
+      rows-more (s .args .t1) (b .loop .i) _ _ _ _ _ _ (omega arith) (b .loop .inv .2) (row .put-row .ensures .0),
+      rows-length-more (s .args .t1) (b .loop .i) (omega arith) (b .loop .inv .3) (row .put-row .ensures .1),
+    )
 
 same-length : tie.Need-same-length Inv-loop μ-loop
 same-length c = c .before .loop .inv .1 ∙ c .before .before .before .before .put-literal .kept .0
 
 returns : tie.Need-returns Inv-loop μ-loop
 returns c =
-    (rows-done _ _ _ _ _ _ _ _ _ (c .before .before .before .before .before .before .before .before .before .good .0 .1 .0 .1) (c .before .before .before .before .before .before .before .smaller .ensures) (c .before .loop .inv .0) (c .loop-test .left) (puts _ _ _ _ _ (c .before .before .before .before .put-literal .ensures)) (c .before .loop .inv .2), rows-length-done _ _ _ _ (c .before .before .before .before .before .before .before .before .before .good .0 .1 .0 .1) (c .before .before .before .before .before .before .before .smaller .ensures) (c .before .loop .inv .0) (c .loop-test .left) (c .before .loop .inv .3))
+    let b = c .before in
+    let word = b .before .before .before in
+    let at-smaller = word .before .before .before in
+    let long = at-smaller .before .before .good .0 .1 .0 .1 in
+    let e = at-smaller .smaller .ensures in (
+      rows-done _ _ _ _ _ _ _ _ _ long e (b .loop .inv .0) (c .loop-test .left) (puts _ _ _ _ _ (word .put-literal .ensures)) (b .loop .inv .2),
+      rows-length-done _ _ _ _ long e (b .loop .inv .0) (c .loop-test .left) (b .loop .inv .3),
+    )
 
 pub put-rows-spec : {M : Type 1} → statement M
 put-rows-spec =

@@ -4,8 +4,6 @@ use Rattle.script.proofs.Prints.{puts, puts-then, started-length}
 use Rattle.script.proofs.put_started.Statement.{statement}
 use Rattle.script.proofs.put_started.Tie as tie
 
--- `script::put_started` meets its contract.
-
 slice-aggregate-put-decimal : tie.Need-slice-aggregate-put-decimal
 slice-aggregate-put-decimal c = search needs
 
@@ -35,11 +33,16 @@ same-length c = search needs
 
 returns : tie.Need-returns
 returns c =
-    let a = c .before .before .before .before .before .before .before .before .before .before .before .before .before .before .before .before .before .put-decimal .ensures in
-    let b = c .before .before .before .before .before .before .before .before .before .before .before .before .put-decimal2 .ensures in
-    let d = c .before .before .before .before .before .before .before .put-decimal3 .ensures in
-    let x = c .before .before .before .before .before .before .before .before .before .before .before .before .before .before .before .before .before .before .before .before .before .args in (
-      puts-then _ _ _ _ _ _ _ _ (a .0) (puts-then _ _ _ _ _ _ _ _ (b .0) (puts-then _ _ _ _ _ _ _ _ (d .0) (puts _ _ _ _ _ (c .before .before .put-literal .ensures)))),
+    let last = c .before .before in
+    let third = last .before .before .before .before .before in
+    let second = third .before .before .before .before .before in
+    let first = second .before .before .before .before .before in
+    let x = first .before .before .before .before .args in
+    let a = first .put-decimal .ensures in
+    let b = second .put-decimal2 .ensures in
+    let d = third .put-decimal3 .ensures in
+    let e = puts-then _ _ _ _ _ _ _ _ (d .0) (puts _ _ _ _ _ (last .put-literal .ensures)) in (
+      puts-then _ _ _ _ _ _ _ _ (a .0) (puts-then _ _ _ _ _ _ _ _ (b .0) e),
       started-length (x .handle) (x .killed) (x .taken) (a .1) (b .1) (d .1),
     )
 

@@ -4,8 +4,6 @@ use Rattle.script.proofs.Prints.{puts, puts-then, table-length}
 use Rattle.script.proofs.put_table.Statement.{statement}
 use Rattle.script.proofs.put_table.Tie as tie
 
--- `script::put_table` meets its contract.
-
 put-rows-requires : tie.Need-put-rows-requires
 put-rows-requires c κs = search needs
 
@@ -19,7 +17,11 @@ same-length : tie.Need-same-length
 same-length c = search needs
 
 returns : tie.Need-returns
-returns c = (puts-then _ _ _ _ _ _ _ _ (c .before .before .before .before .before .before .before .put-rows .ensures .0) (puts _ _ _ _ _ (c .before .before .put-literal .ensures)), table-length _ (c .before .before .before .before .before .before .before .put-rows .ensures .1))
+returns c =
+    let at-put-literal = c .before .before in
+    let at-put-rows = at-put-literal .before .before .before .before .before in
+    let all = puts-then _ _ _ _ _ _ _ _ (at-put-rows .put-rows .ensures .0) (puts _ _ _ _ _ (at-put-literal .put-literal .ensures)) in
+    (all, table-length _ (at-put-rows .put-rows .ensures .1))
 
 pub put-table-spec : {M : Type 1} → statement M
 put-table-spec =

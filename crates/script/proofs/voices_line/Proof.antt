@@ -6,10 +6,6 @@ use Rattle.script.proofs.Turns.{voices-first, voices-table}
 use Rattle.script.proofs.voices_line.Statement.{statement}
 use Rattle.script.proofs.voices_line.Tie as tie
 
--- `script::voices_line` meets its contract: before the design, and after it.
-
--- `script::voices_line` meets its contract: before the design, and after it.
-
 unread-requires : tie.Need-unread-requires
 unread-requires c κs = search needs
 
@@ -17,7 +13,10 @@ same-length : tie.Need-same-length
 same-length c = search needs
 
 returns : tie.Need-returns
-returns c = let a = c .before .before .before .before .before .before .before .args in voices-first (a .s .ready) _ _ _ _ (c .before .before .unread .ensures) (not-true _ (c .before .before .before .before .if1 .taken))
+returns c =
+    let u = c .before .before in
+    let b = u .before .before in
+    voices-first (b .before .before .before .args .s .ready) _ _ _ _ (u .unread .ensures) (not-true _ (b .if1 .taken))
 
 put-table-requires : tie.Need-put-table-requires
 put-table-requires c κs = search needs
@@ -26,7 +25,11 @@ same-length-2 : tie.Need-same-length-2
 same-length-2 c = search needs
 
 returns-2 : tie.Need-returns-2
-returns-2 c = let a = c .before .before .before .before .before .before .before .before .before .args in voices-table (a .s .ready) (a .s) _ _ _ (not-false _ (c .before .before .before .before .before .before .if1 .left)) (printed _ _ _ _ (c .before .before .put-table .ensures .0) (c .before .before .put-table .ensures .1) (c .before .before .before .before .before .before .before .before .before .pre))
+returns-2 c =
+    let p = c .before .before in
+    let b = p .before .before .before .before .before in
+    let s = b .before .before .before in
+    voices-table (s .args .s .ready) (s .args .s) _ _ _ (not-false _ (b .if1 .left)) (printed _ _ _ _ (p .put-table .ensures .0) (p .put-table .ensures .1) (s .pre))
 
 pub voices-line-spec : {M : Type 1} → statement M
 voices-line-spec =

@@ -10,7 +10,9 @@ returns : tie.Need-returns
 returns c = search needs
 
 slice-aggregate-answer : tie.Need-slice-aggregate-answer
-slice-aggregate-answer c = sym (length-take-le (c .before .before .before .before .before .before .before .args .len) (c .before .before .before .before .before .before .before .args .line .now) (omega arith))
+slice-aggregate-answer c =
+    let s = c .before .before .before .before .before .before .before in
+    sym (length-take-le (s .args .len) (s .args .line .now) (omega arith))
 
 answer-requires : tie.Need-answer-requires
 answer-requires c κs = search needs

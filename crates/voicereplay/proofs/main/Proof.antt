@@ -7,7 +7,8 @@ use Rattle.voicereplay.proofs.main.Statement.{statement}
 use Rattle.voicereplay.proofs.main.Tie as tie
 
 abbrev Inv-loop : tie.InvT-loop
-Inv-loop input₀ out₀ line₀ samples₀ stereo₀ run₀ turns₀ input out line samples stereo run turns = (length input ≡ 65536) × (length out ≡ 65536) × (length line ≡ 257) × (length samples ≡ 524289) × (length stereo ≡ 2049)
+Inv-loop input₀ out₀ line₀ samples₀ stereo₀ run₀ turns₀ input out line samples stereo run turns =
+    (length input ≡ 65536) × (length out ≡ 65536) × (length line ≡ 257) × (length samples ≡ 524289) × (length stereo ≡ 2049)
 
 abbrev μ-loop : tie.MeasureT-loop
 μ-loop input₀ out₀ line₀ samples₀ stereo₀ run₀ turns₀ input out line samples stereo run turns = turns

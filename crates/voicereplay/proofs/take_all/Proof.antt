@@ -7,7 +7,8 @@ use Rattle.voicereplay.proofs.take_all.Statement.{statement}
 use Rattle.voicereplay.proofs.take_all.Tie as tie
 
 abbrev Inv-loop : tie.InvT-loop
-Inv-loop chunk line₀ samples₀ stereo₀ out₀ run₀ i₀ line samples stereo out run i = (length line ≡ length line₀) × (length samples ≡ length samples₀) × (length stereo ≡ length stereo₀) × (length out ≡ length out₀)
+Inv-loop chunk line₀ samples₀ stereo₀ out₀ run₀ i₀ line samples stereo out run i =
+    (length line ≡ length line₀) × (length samples ≡ length samples₀) × (length stereo ≡ length stereo₀) × (length out ≡ length out₀)
 
 abbrev μ-loop : tie.MeasureT-loop
 μ-loop chunk line₀ samples₀ stereo₀ out₀ run₀ i₀ line samples stereo out run i = length chunk - i

@@ -6,10 +6,10 @@ use Rattle.bench.proofs.sums.table.Statement.{statement}
 use Rattle.bench.proofs.sums.table.Tie as tie
 
 abbrev Inv-loop : tie.InvT-loop
-Inv-loop s n sum₀ i₀ sum i = i ≤ n
+Inv-loop t n sum₀ i₀ sum i = i ≤ n
 
 abbrev μ-loop : tie.MeasureT-loop
-μ-loop s n sum₀ i₀ sum i = n - i
+μ-loop t n sum₀ i₀ sum i = n - i
 
 smaller-requires : tie.Need-smaller-requires Inv-loop μ-loop
 smaller-requires c κs = search needs

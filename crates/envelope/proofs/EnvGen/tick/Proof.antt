@@ -1,6 +1,8 @@
-use mathlib.Core.Path.{_≡_, sym, ap, _∙_}
+use mathlib.Core.Path.{_≡_, refl, sym, ap, _∙_}
+use lib.Ieee.{Float}
 use Rattle.envelope.specs.declared.EnvGen.{EnvGen}
 use Rattle.envelope.specs.declared.Stage.{Stage}
+use Rattle.envelope.specs.Gates.{at}
 use Rattle.envelope.specs.Ticks.{ticked, tickedIn}
 use borrow.Author.Needs.{needs}
 use Rattle.envelope.proofs.EnvGen.tick.Statement.{statement}
@@ -10,11 +12,12 @@ within : (e : EnvGen) (st : Stage) → e .stage ≡ st → tickedIn st e ≡ tic
 unfolding ticked
 within e st h = ap (λ (t : Stage). tickedIn t e) (sym h)
 
+-- a stage that the tick does not leave
+stays : (e : EnvGen) (st : Stage) (x : Float) → e .stage ≡ st → at e st x ≡ tickedIn st e → at e (e .stage) x ≡ ticked e
+stays e st x h k = ap (λ (t : Stage). at e t x) h ∙ k ∙ within e st h
+
 enum-told : tie.Need-enum-told
 enum-told c = search needs
-
-at-requires : tie.Need-at-requires
-at-requires c κs = search needs
 
 enum-told-2 : tie.Need-enum-told-2
 enum-told-2 c = search needs
@@ -31,9 +34,6 @@ tick-decay-requires c κs = search needs
 enum-told-4 : tie.Need-enum-told-4
 enum-told-4 c = search needs
 
-at-requires-2 : tie.Need-at-requires-2
-at-requires-2 c κs = search needs
-
 enum-told-5 : tie.Need-enum-told-5
 enum-told-5 c = search needs
 
@@ -41,7 +41,8 @@ tick-release-requires : tie.Need-tick-release-requires
 tick-release-requires c κs = search needs
 
 returns : tie.Need-returns
-returns c = c .at .ensures ∙ within _ _ (c .before .enum-told .given .1)
+unfolding at
+returns c = stays _ _ _ (c .enum-told .given .1) refl
 
 returns-2 : tie.Need-returns-2
 returns-2 c = c .tick-attack .ensures ∙ within _ _ (c .before .enum-told2 .given .1)
@@ -50,7 +51,8 @@ returns-3 : tie.Need-returns-3
 returns-3 c = c .tick-decay .ensures ∙ within _ _ (c .before .enum-told3 .given .1)
 
 returns-4 : tie.Need-returns-4
-returns-4 c = c .at2 .ensures ∙ within _ _ (c .before .enum-told4 .given .1)
+unfolding at
+returns-4 c = stays _ _ _ (c .enum-told4 .given .1) refl
 
 returns-5 : tie.Need-returns-5
 returns-5 c = c .tick-release .ensures ∙ within _ _ (c .before .enum-told5 .given .1)
@@ -60,13 +62,11 @@ tick-spec =
     tie.close
     (tie.spec
     enum-told
-    at-requires
     enum-told-2
     tick-attack-requires
     enum-told-3
     tick-decay-requires
     enum-told-4
-    at-requires-2
     enum-told-5
     tick-release-requires
     returns

@@ -21,7 +21,11 @@ write-env-requires : tie.Need-write-env-requires
 write-env-requires c κs = search needs
 
 returns-2 : tie.Need-returns-2
-returns-2 c = ticks _ (sym (c .before .before .before .before .stage-numbered .ensures) ∙ not-false _ (c .before .before .before .if1 .left)) _ _ _ (c .before .before .read-env .ensures) (c .before .tick .ensures) (c .write-env .ensures .0) (c .write-env .ensures .1)
+returns-2 c =
+    let b = c .before .before .before in
+    let sure = sym (b .before .stage-numbered .ensures) ∙ not-false _ (b .if1 .left) in
+    let w = c .write-env .ensures in
+    ticks _ sure _ _ _ (c .before .before .read-env .ensures) (c .before .tick .ensures) (w .0) (w .1)
 
 pub cirstumbe-env-tick-spec : {M : Type 1} → statement M
 cirstumbe-env-tick-spec =

@@ -18,9 +18,9 @@ find-first-requires c κs = search needs
 returns-2 : tie.Need-returns-2
 returns-2 c =
     let t = c .before in
-    let b = t .before .before in
+    let b = t .before in
     let s = b .before .before in
-    active-found (s .args .self) (sym (b .before .well-formed .ensures) ∙ not-false _ (b .if1 .left)) (voices-long (s .args .self) (s .good .0)) (s .args .handle) _ (t .find-first .ensures .place)
+    active-found (s .args .self) (sym (b .before .well-formed .ensures) ∙ not-false _ (b .if1 .left)) (voices-long (s .args .self) (s .good .0)) (s .args .handle) _ (t .find-first .ensures)
 
 pub is-active-spec : {M : Type 1} → statement M
 is-active-spec = tie.close (tie.spec well-formed-requires returns find-first-requires returns-2)

@@ -7,10 +7,10 @@ use Rattle.instrument_cases.proofs.made.each_note.Statement.{statement}
 use Rattle.instrument_cases.proofs.made.each_note.Tie as tie
 
 abbrev Inv-loop : tie.InvT-loop
-Inv-loop held₀ i₀ held i = (i ≤ 256) × (length held ≡ 256)
+Inv-loop notes₀ i₀ notes i = (i ≤ 256) × (length notes ≡ 256)
 
 abbrev μ-loop : tie.MeasureT-loop
-μ-loop held₀ i₀ held i = 256 - i
+μ-loop notes₀ i₀ notes i = 256 - i
 
 loop-holds : tie.Need-loop-holds Inv-loop μ-loop
 loop-holds c = search needs
@@ -18,8 +18,8 @@ loop-holds c = search needs
 cast-t5 : tie.Need-cast-t5 Inv-loop μ-loop
 cast-t5 c = search needs
 
-array-set-from-held : tie.Need-array-set-from-held Inv-loop μ-loop
-array-set-from-held c = search needs
+array-set-from-notes : tie.Need-array-set-from-notes Inv-loop μ-loop
+array-set-from-notes c = search needs
 
 add-i : tie.Need-add-i Inv-loop μ-loop
 add-i c = search needs
@@ -41,7 +41,7 @@ each-note-spec =
     μ-loop
     loop-holds
     cast-t5
-    array-set-from-held
+    array-set-from-notes
     add-i
     loop-less
     loop-again

@@ -34,13 +34,19 @@ slice-relend-prefix-mix-on : tie.Need-slice-relend-prefix-mix-on
 slice-relend-prefix-mix-on c = search needs
 
 slice-aggregate-mix-on : tie.Need-slice-aggregate-mix-on
-slice-aggregate-mix-on c = sym (length-take-le (c .before .before .before .before .before .lent .result) (c .before .before .before .before .before .before .before .before .before .before .before .args .samples .now) (omega arith))
+slice-aggregate-mix-on c =
+    let n = c .before .before .before .before .before in
+    let s = n .before .before .before .before .before .before in
+    sym (length-take-le (n .lent .result) (s .args .samples .now) (omega arith))
 
 slice-relend-prefix-mix-on-2 : tie.Need-slice-relend-prefix-mix-on-2
 slice-relend-prefix-mix-on-2 c = search needs
 
 slice-aggregate-mix-on-2 : tie.Need-slice-aggregate-mix-on-2
-slice-aggregate-mix-on-2 c = sym (length-take-le (c .before .before .before .before .lent2 .result) (c .before .before .before .before .before .before .before .before .before .before .before .before .args .stereo .now) (omega arith))
+slice-aggregate-mix-on-2 c =
+    let k = c .before .before .before .before in
+    let s = k .before .before .before .before .before .before .before .before in
+    sym (length-take-le (k .lent2 .result) (s .args .stereo .now) (omega arith))
 
 mix-on-requires : tie.Need-mix-on-requires
 mix-on-requires c κs = search needs

@@ -37,7 +37,9 @@ returns c =
     let s = b .before .before in
     let e = b .before .smaller in
     let len : length (s .args .t1) ≡ 8 = s .good .0 .1 .0 .1 in
-    left-fails copyNumbered 8 (s .args .t1) len (s .args .count) (e .result) (e .ensures) (b .loop .j) _ (c .before .before .before .loop-test .taken) (sym (c .before .copy-numbered .ensures) ∙ not-true _ (c .if1 .taken)) (b .loop .inv .1)
+    let test = c .before .before .before .loop-test .taken in
+    let fails = sym (c .before .copy-numbered .ensures) ∙ not-true _ (c .if1 .taken) in
+    left-fails copyNumbered 8 (s .args .t1) len (s .args .count) (e .result) (e .ensures) (b .loop .j) _ test fails (b .loop .inv .1)
 
 add-j : tie.Need-add-j Inv-loop μ-loop
 add-j c = omega arith
@@ -51,7 +53,9 @@ loop-again c =
     let s = b .before .before in
     let e = b .before .smaller in
     let len : length (s .args .t1) ≡ 8 = s .good .0 .1 .0 .1 in
-    (omega arith, left-more copyNumbered 8 (s .args .t1) len (s .args .count) (e .result) (e .ensures) (b .loop .j) _ (c .before .before .before .loop-test .taken) (sym (c .before .copy-numbered .ensures) ∙ not-false _ (c .if1 .left)) (b .loop .inv .1))
+    let test = c .before .before .before .loop-test .taken in
+    let passes = sym (c .before .copy-numbered .ensures) ∙ not-false _ (c .if1 .left) in
+    (omega arith, left-more copyNumbered 8 (s .args .t1) len (s .args .count) (e .result) (e .ensures) (b .loop .j) _ test passes (b .loop .inv .1))
 
 returns-2 : tie.Need-returns-2 Inv-loop μ-loop
 returns-2 c =

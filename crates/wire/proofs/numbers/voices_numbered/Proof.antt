@@ -37,7 +37,9 @@ returns c =
     let s = b .before .before in
     let e = b .before .smaller in
     let len : length (s .args .t1) ≡ 64 = s .good .0 .1 .0 .1 in
-    left-fails voiceNumbered 64 (s .args .t1) len (s .args .count) (e .result) (e .ensures) (b .loop .i) _ (c .before .before .before .loop-test .taken) (sym (c .before .voice-numbered .ensures) ∙ not-true _ (c .if1 .taken)) (b .loop .inv .1)
+    let test = c .before .before .before .loop-test .taken in
+    let fails = sym (c .before .voice-numbered .ensures) ∙ not-true _ (c .if1 .taken) in
+    left-fails voiceNumbered 64 (s .args .t1) len (s .args .count) (e .result) (e .ensures) (b .loop .i) _ test fails (b .loop .inv .1)
 
 add-i : tie.Need-add-i Inv-loop μ-loop
 add-i c = omega arith
@@ -51,7 +53,9 @@ loop-again c =
     let s = b .before .before in
     let e = b .before .smaller in
     let len : length (s .args .t1) ≡ 64 = s .good .0 .1 .0 .1 in
-    (omega arith, left-more voiceNumbered 64 (s .args .t1) len (s .args .count) (e .result) (e .ensures) (b .loop .i) _ (c .before .before .before .loop-test .taken) (sym (c .before .voice-numbered .ensures) ∙ not-false _ (c .if1 .left)) (b .loop .inv .1))
+    let test = c .before .before .before .loop-test .taken in
+    let passes = sym (c .before .voice-numbered .ensures) ∙ not-false _ (c .if1 .left) in
+    (omega arith, left-more voiceNumbered 64 (s .args .t1) len (s .args .count) (e .result) (e .ensures) (b .loop .i) _ test passes (b .loop .inv .1))
 
 returns-2 : tie.Need-returns-2 Inv-loop μ-loop
 returns-2 c =

@@ -1,6 +1,6 @@
 use mathlib.Core.Path.{refl, ap, sym, _∙_}
 use lib.ListN.{take}
-use Rattle.voices.specs.View.{voicesOf}
+use Rattle.table.specs.View.{voicesOf}
 use Rattle.instrument.specs.View.{view}
 use Rattle.wire.proofs.Parts.{voices-of, written-numbered}
 use Rattle.wire.specs.Reads.{modelOf}
@@ -23,14 +23,15 @@ write-held-requires c κs = search needs
 returns : tie.Need-returns
 unfolding view modelOf
 returns c =
-    let s = c .before .before .before .before .before .before .before .args .s in
-    let design = c .before .before .before .write-design .ensures in
+    let first = c .before .before .before in
+    let s = first .before .before .before .before .before .before .args .s in
+    let design = first .write-design .ensures in
     let voices = c .before .before .write-voices .ensures in
     let pedal = c .before .flag-number .ensures in
     record {
       model = λ i. record {
         design = design .0 i;
-        voices = (sym (voices-of (take (s .«voice_count») (c .before .before .write-voices .result))) ∙ ap voicesOf (voices .0)) i;
+        voices = (sym (voices-of (take (s .table .count) (c .before .before .write-voices .result))) ∙ ap voicesOf (voices .0)) i;
         next = s .«next_handle»;
         pedal = pedal .0 i;
         bend = s .bend;

@@ -64,7 +64,8 @@ returns c =
     let s = b .before .before .before .before in
     let len : length (s .args .t1) ≡ 8 = s .good .0 .1 .0 .1 in
     let e : b .loop .j ≡ min (s .args .count) 8 = omega arith in
-    (fill-all _ _ (s .args .count) len e (b .loop .inv .1) ∙ map-id _, all-passed copyNumbered (take (s .args .count) (b .loop .cs)) (take (s .args .count) (s .args .t1)) (fill-all _ _ (s .args .count) len e (b .loop .inv .2)))
+    let n = s .args .count in
+    (fill-all _ _ n len e (b .loop .inv .1) ∙ map-id _, all-passed copyNumbered (take n (b .loop .cs)) (take n (s .args .t1)) (fill-all _ _ n len e (b .loop .inv .2)))
 
 pub write-copies-spec : {M : Type 1} → statement M
 write-copies-spec =

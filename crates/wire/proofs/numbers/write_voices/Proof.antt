@@ -64,7 +64,8 @@ returns c =
     let s = b .before .before .before .before in
     let len : length (s .args .t1) ≡ 64 = s .good .0 .1 .0 .1 in
     let e : b .loop .i ≡ min (s .args .count) 64 = omega arith in
-    (fill-all _ _ (s .args .count) len e (b .loop .inv .1), rooms (take (s .args .count) (b .loop .vs)) (take (s .args .count) (s .args .t1)) (fill-all _ _ (s .args .count) len e (b .loop .inv .2)))
+    let n = s .args .count in
+    (fill-all _ _ n len e (b .loop .inv .1), rooms (take n (b .loop .vs)) (take n (s .args .t1)) (fill-all _ _ n len e (b .loop .inv .2)))
 
 pub write-voices-spec : {M : Type 1} → statement M
 write-voices-spec =

@@ -1,0 +1,9 @@
+pub mod Shown
+pub mod Changes
+pub mod Sizes
+pub mod Searches
+pub mod Edits
+pub mod Checks
+pub mod Handles
+pub mod Looking
+pub mod Fits
