@@ -418,13 +418,13 @@ impl Instrument {
         let mut killed: u64 = 0;
         if max <= table.count_of(VoiceTest::Sounding) {
             let victim = table.quietest_sounding();
-            killed = table.handle_at(victim);
-            table = table.change_at(victim, VoiceChange::Kill);
+            killed = table.voices[victim].handle;
+            table.voices[victim] = table.voices[victim].changed(VoiceChange::Kill);
         }
         let mut taken: u64 = 0;
         if 2 * max <= table.count {
             let victim = table.quietest();
-            taken = table.handle_at(victim);
+            taken = table.voices[victim].handle;
             table = table.remove(victim);
         }
         let after = table.push(voice);
