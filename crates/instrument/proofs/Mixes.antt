@@ -104,7 +104,8 @@ module _ (s : Instrument) (xs out : List Float) (lv : length (s .table .voices) 
   unfolding refusalOf refusal formed mixRefusal blockOpen blockMissing noBlock handlesSpent view
   number-formed e =
       let w = both (counted s) (wellFormed (view s)) e in
-      rw (w .0, w .1, table-copies s lv lh e) (ap (λ (k : ℕ). cond (eqb (s .frames) 0) 6 k) (lengths-are (s .frames * (s .table .count * copiesOf (s .design))) (length xs) (2 * s .frames) (length out)))
+      rw (w .0, w .1, table-copies s lv lh e)
+      (ap (λ (k : ℕ). cond (eqb (s .frames) 0) 6 k) (lengths-are (s .frames * (s .table .count * copiesOf (s .design))) (length xs) (2 * s .frames) (length out)))
 
   number-unformed : formed s ≡ false → numbered false ≡ refusalOf s call
   unfolding refusalOf refusal formed mixRefusal

@@ -87,7 +87,8 @@ module _ (s : Instrument) (n : ℕ) (vibrato filter sine : Float) (curve : List 
   -- nothing bars the call
   number-free : Free s → cond (framesFit (s .design) n) (cond (eqb (n * (s .table .count * copiesOf (s .design))) (length curve)) 0 7) 4 ≡ refusalOf s call
   unfolding refusalOf refusal blockOpen blockMissing noBlock handlesSpent view
-  number-free f = rw (f .counted, f .well, eq-eqb (s .frames) 0 (f .closed), table-copies s lv lh (f .formed)) (by (framesFit (s .design) n) (n * (s .table .count * copiesOf (s .design))) (length curve))
+  number-free f = rw (f .counted, f .well, eq-eqb (s .frames) 0 (f .closed), table-copies s lv lh (f .formed))
+      (by (framesFit (s .design) n) (n * (s .table .count * copiesOf (s .design))) (length curve))
     where
       by : (b : Bool) (x y : ℕ) → _≡_ {A = ℕ} (cond b (cond (eqb x y) 0 7) 4) (cond (not b) 4 (cond (not (eqb y x)) 7 0))
       by b x y = cases b (eqb x y) refl

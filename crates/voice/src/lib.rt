@@ -82,19 +82,6 @@ fn change_copy(c: UnisonCopy, change: CopyChange) -> UnisonCopy
     }
 }
 
-fn change_copies(copies: [UnisonCopy; 8], count: usize, change: CopyChange) -> [UnisonCopy; 8]
-    ensures { λ r. ⌜ take count r ≡ map (copyChanged change) (take count copies) ⌝ }
-{
-    let n = smaller(count, 8);
-    let mut cs = copies;
-    let mut j: usize = 0;
-    while j < n {
-        cs[j] = change_copy(cs[j], change);
-        j += 1;
-    }
-    cs
-}
-
 impl Voice {
     fn released(mut self) -> Voice
         ensures { λ r. ⌜ seen r ≡ onSeen releasedVoice (seen self) ⌝ }
@@ -154,9 +141,12 @@ impl Voice {
     fn with_copies(mut self, change: CopyChange) -> Voice
         ensures { λ r. ⌜ seen r ≡ onSeen (withCopies (copyChanged change)) (seen self) ⌝ }
     {
-        let copies = self.copies;
-        let next = change_copies(copies, self.copy_count, change);
-        self.copies = next;
+        let n = self.copies_shown();
+        let mut j: usize = 0;
+        while j < n {
+            self.copies[j] = change_copy(self.copies[j], change);
+            j += 1;
+        }
         self
     }
 

@@ -28,7 +28,8 @@ returns-2 : tie.Need-returns-2
 returns-2 c =
     let b = c .before .before .before in
     let sure = sym (b .before .numbered .ensures) ∙ not-false _ (b .if1 .left) in
-    hosted-answer _ _ sure (c .before .before .read .ensures) (c .before .is-active .result) (λ m. isActive m (b .before .before .args .handle)) _ (c .before .is-active .ensures) (c .said-answer .ensures)
+    hosted-answer _ _ sure (c .before .before .read .ensures) (c .before .is-active .result) (λ m. isActive m (b .before .before .args .handle)) _ (c .before .is-active .ensures)
+    (c .said-answer .ensures)
 
 pub cirstumbe-is-active-spec : {M : Type 1} → statement M
 cirstumbe-is-active-spec =

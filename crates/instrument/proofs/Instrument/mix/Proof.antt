@@ -110,10 +110,10 @@ copies-shown-requires : tie.Need-copies-shown-requires Inv-loop μ-loop
 copies-shown-requires c κs = search needs
 
 mul-at : tie.Need-mul-at Inv-loop μ-loop
-mul-at c = omega (arith, left-after c, start (c .before .before .before .before .before .before .before .before .before) .good .1 .0 .0)
+mul-at c = omega (arith, left-after c, start (turn c .before .before) .good .1 .0 .0)
 
 add-at : tie.Need-add-at Inv-loop μ-loop
-add-at c = omega (arith, left-after c, start (c .before .before .before .before .before .before .before .before .before) .good .1 .0 .0)
+add-at c = omega (arith, left-after c, start (turn c .before .before) .good .1 .0 .0)
 
 mul-with-env : tie.Need-mul-with-env Inv-loop μ-loop
 mul-with-env c = omega arith

@@ -52,7 +52,8 @@ returns-3 c =
     let m = p .before in
     let e = m .before .before .before in
     let s = e .before .before .before in
-    off-poly _ (fine e) _ _ (m .enum-told2 .given .1) (poly-none (s .args .self) (fine e) (voices-long (s .args .self) (s .good .0)) _ _ (p .find-last .ensures) _ (c .before .if2 .taken) (c .answered .ensures))
+    off-poly _ (fine e) _ _ (m .enum-told2 .given .1)
+    (poly-none (s .args .self) (fine e) (voices-long (s .args .self) (s .good .0)) _ _ (p .find-last .ensures) _ (c .before .if2 .taken) (c .answered .ensures))
 
 change-at-requires : tie.Need-change-at-requires
 change-at-requires c κs = search needs
@@ -68,7 +69,8 @@ returns-4 c =
     let m = p .before in
     let e = m .before .before .before in
     let s = e .before .before .before in
-    off-poly _ (fine e) _ _ (m .enum-told2 .given .1) (poly-one (s .args .self) (fine e) (voices-long (s .args .self) (s .good .0)) _ _ (p .find-last .ensures) _ _ (d .if2 .left) (c .before .change-at .ensures) (c .answered2 .ensures))
+    off-poly _ (fine e) _ _ (m .enum-told2 .given .1)
+    (poly-one (s .args .self) (fine e) (voices-long (s .args .self) (s .good .0)) _ _ (p .find-last .ensures) _ _ (d .if2 .left) (c .before .change-at .ensures) (c .answered2 .ensures))
 
 pub note-off-spec : {M : Type 1} → statement M
 note-off-spec =
