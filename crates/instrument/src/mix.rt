@@ -62,12 +62,11 @@ impl Instrument {
     pub fn mix(mut self, samples: &[f32], out: &mut [f32]) -> MixOutcome
         ensures { λ r. ⌜ MixAs self (now (samples .entry)) (now (out .entry)) (now (out .exit)) r ⌝ }
     {
-        let design = self.design;
         let frames = self.frames;
         let mut table = self.table;
         let count = table.count;
         let formed = self.well_formed();
-        let number = mix_refusal(formed, frames, count, design, samples.len(), out.len());
+        let number = mix_refusal(formed, frames, count, self.design, samples.len(), out.len());
         if number != 0 {
             return unmixed(self, number);
         }

@@ -29,7 +29,7 @@ abbrev μ-loop : tie.MeasureT-loop
 -- past the refusals
 module _ (t : tie.Else1 Inv-loop μ-loop) where
   abbrev start : tie.Start Inv-loop μ-loop
-  start = t .before .before .before .before .before .before .before
+  start = t .before .before .before .before .before .before
 
   long : length (start .args .self .table .voices) ≡ 64
   long = voices-long (start .args .self) (start .good .0)
@@ -82,7 +82,7 @@ returns : tie.Need-returns Inv-loop μ-loop
 returns c =
     let m = c .before .before in
     let w = m .before in
-    let s = w .before .before .before .before .before in
+    let s = w .before .before .before .before in
     let x = s .args in
     mix-refused (x .self) (x .samples .now) (x .out .now) _ _
     (mix-number (x .self) _ _ (voices-long (x .self) (s .good .0)) (held-long (x .self) (s .good .0)) _ _ (w .well-formed .ensures) (m .mix-refusal .ensures))
@@ -95,7 +95,7 @@ mul-v : tie.Need-mul-v Inv-loop μ-loop
 mul-v c = omega arith
 
 element-copy-out-v : tie.Need-element-copy-out-v Inv-loop μ-loop
-element-copy-out-v c = search needs
+element-copy-out-v c = omega arith
 
 slice-aggregate-add-voice : tie.Need-slice-aggregate-add-voice Inv-loop μ-loop
 slice-aggregate-add-voice c = search needs
@@ -119,16 +119,16 @@ mul-with-env : tie.Need-mul-with-env Inv-loop μ-loop
 mul-with-env c = omega arith
 
 element-copy-out-with-env : tie.Need-element-copy-out-with-env Inv-loop μ-loop
-element-copy-out-with-env c = search needs
+element-copy-out-with-env c = omega arith
 
 with-env-requires : tie.Need-with-env-requires Inv-loop μ-loop
 with-env-requires c κs = search needs
 
-mul-t22 : tie.Need-mul-t22 Inv-loop μ-loop
-mul-t22 c = omega arith
+mul-t21 : tie.Need-mul-t21 Inv-loop μ-loop
+mul-t21 c = omega arith
 
 element-set-from-table : tie.Need-element-set-from-table Inv-loop μ-loop
-element-set-from-table c = search needs
+element-set-from-table c = omega arith
 
 goes-on-requires : tie.Need-goes-on-requires Inv-loop μ-loop
 goes-on-requires c κs = search needs
@@ -137,7 +137,7 @@ mul-ended : tie.Need-mul-ended Inv-loop μ-loop
 mul-ended c = omega arith
 
 array-write-ended : tie.Need-array-write-ended Inv-loop μ-loop
-array-write-ended c = search needs
+array-write-ended c = omega arith
 
 add-gone : tie.Need-add-gone Inv-loop μ-loop
 add-gone c = omega arith
@@ -146,16 +146,16 @@ mul-table : tie.Need-mul-table Inv-loop μ-loop
 mul-table c = omega arith
 
 element-copy-out-table : tie.Need-element-copy-out-table Inv-loop μ-loop
-element-copy-out-table c = search needs
+element-copy-out-table c = omega arith
 
-sub-t45 : tie.Need-sub-t45 Inv-loop μ-loop
-sub-t45 c = omega arith
+sub-t44 : tie.Need-sub-t44 Inv-loop μ-loop
+sub-t44 c = omega arith
 
-mul-t46 : tie.Need-mul-t46 Inv-loop μ-loop
-mul-t46 c = omega arith
+mul-t45 : tie.Need-mul-t45 Inv-loop μ-loop
+mul-t45 c = omega arith
 
 element-set-from-table-2 : tie.Need-element-set-from-table-2 Inv-loop μ-loop
-element-set-from-table-2 c = search needs
+element-set-from-table-2 c = omega arith
 
 add-i : tie.Need-add-i Inv-loop μ-loop
 add-i c = omega arith
@@ -238,7 +238,7 @@ mix-spec =
     mul-with-env
     element-copy-out-with-env
     with-env-requires
-    mul-t22
+    mul-t21
     element-set-from-table
     goes-on-requires
     mul-ended
@@ -246,8 +246,8 @@ mix-spec =
     add-gone
     mul-table
     element-copy-out-table
-    sub-t45
-    mul-t46
+    sub-t44
+    mul-t45
     element-set-from-table-2
     add-i
     loop-less

@@ -97,7 +97,7 @@ mul-v : tie.Need-mul-v Inv-loop μ-loop
 mul-v c = omega arith
 
 element-copy-out-v : tie.Need-element-copy-out-v Inv-loop μ-loop
-element-copy-out-v c = search needs
+element-copy-out-v c = omega arith
 
 copies-shown-requires : tie.Need-copies-shown-requires Inv-loop μ-loop
 copies-shown-requires c κs = search needs
@@ -145,7 +145,7 @@ mul-t38 : tie.Need-mul-t38 Inv-loop μ-loop
 mul-t38 c = omega arith
 
 element-set-from-table : tie.Need-element-set-from-table Inv-loop μ-loop
-element-set-from-table c = search needs
+element-set-from-table c = omega arith
 
 add-i : tie.Need-add-i Inv-loop μ-loop
 add-i c = omega arith
