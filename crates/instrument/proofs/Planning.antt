@@ -1,7 +1,7 @@
 -- Plan's loop over the voices: what holds before each of them, and what a turn makes of it.
 use mathlib.Core.Path.{_≡_, refl, ap, sym, _∙_}
 use mathlib.Core.List.{List, [], _∷_, _++_, map, flatMap, append-nil}
-use Prim.Native.Nat.{ℕ, _+_, _-_, _*_, _≤_, _<_, min}
+use Prim.Native.Nat.{ℕ, _+_, _*_, _≤_, _<_}
 use native.Mathlib.Nat.{mul-zero}
 use native.Mathlib.Omega.{arith}
 use lib.Ieee.{Float}
@@ -22,7 +22,7 @@ use Rattle.curves.specs.Glides.{GlidedVoice}
 use Rattle.curves.specs.Glides as G
 use Rattle.table.specs.View.{seenFirst, seenIn, voicesIn, Holds}
 use Rattle.table.specs.declared.Table.{Table}
-use Rattle.table.proofs.Shown.{table-size, in-table, read-here, rows-left}
+use Rattle.table.proofs.Shown.{table-size, read-here, rows-left}
 
 -- a voice n samples later
 abbrev later : ℕ → Seen → Seen

@@ -1,30 +1,27 @@
 -- The ways out of Plan and of its parts.
 use mathlib.Core.Path.{_≡_, refl, ap, sym, _∙_, fun-ext}
 use mathlib.Core.Bool.{Bool, true, false, not, cond}
-use mathlib.Core.List.{List, [], _∷_, map}
+use mathlib.Core.List.{List, map}
 use Prim.Native.Nat.{ℕ, zero, suc, _*_, _≤_, _^_}
 use native.Mathlib.Omega.{arith}
-use native.Mathlib.Nat.{mul-le-mul}
-use borrow.Author.Tests.{leb-true, le-leb, eq-eqb, ne-eqb, eqb-true, eqb-false, not-false}
+use borrow.Author.Tests.{leb-true, eq-eqb, ne-eqb, eqb-true, eqb-false, not-false}
 use lib.Dec.{T, leb, eqb, le→leb}
 use lib.Ieee.{Float, binary32, mul, lt, inFloat}
 use lib.IntN.{pos}
-use lib.ListN.{length, length-map}
-use Rattle.lists.specs.Choose.{both, chosen, cond-true, cond-false}
-use Rattle.lists.specs.All.{all}
+use lib.ListN.{length}
+use Rattle.lists.specs.Choose.{both, cond-true, cond-false}
 use Rattle.lists.specs.Count.{count}
-use Rattle.lists.specs.Perms.{distinct}
 use Rattle.float32.specs.Numbers.{zero as +0}
 use Rattle.stream.specs.declared.UnisonCopy.{UnisonCopy}
 use Rattle.stream.specs.Pitch.{bent, cutTo, glided}
 use Rattle.design.specs.declared.InstrumentDesign.{InstrumentDesign}
 use Rattle.design.specs.Accepted.{isAccepted, modulated, copiesOf}
 use Rattle.envelope.specs.Start.{rateFits}
-use Rattle.design.proofs.Limits.{copies-most, rate-fits}
+use Rattle.design.proofs.Limits.{rate-fits}
 use Rattle.model.specs.Types as M
 use Rattle.model.specs.Changes.{moved, blocked}
-use Rattle.model.specs.Formed.{max, handleFits, copiesFit, stageFits, framesFit, wellFormed}
-use Rattle.model.specs.Voices.{withVoice, withCopies, sounding, handles, copiesIn}
+use Rattle.model.specs.Formed.{framesFit, wellFormed}
+use Rattle.model.specs.Voices.{withCopies, copiesIn}
 use Rattle.model.specs.Plan.{vibratoFactor, filterFactor, tremoloGain, phaseAfter, wobbled, applied, modulatedBy, curves, opened, planOf}
 use Rattle.model.specs.Step.{noBlock, blockOpen, blockMissing, handlesSpent, refusal, lentTo, accepted, step}
 use Rattle.model.proofs.Laws.{modulated-copies}

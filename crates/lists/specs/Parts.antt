@@ -1,12 +1,12 @@
 -- A list written part by part: what a part that was lent and came back makes of the whole, parts of a part, one list parted in two ways,
--- elements read and stored one by one, and lists that are joined of one list for each element.
+-- elements read one by one, and lists that are joined of one list for each element.
 use mathlib.Core.Path.{_≡_, refl, ap, sym, _∙_}
-use mathlib.Core.List.{List, [], _∷_, _++_, map, flatMap, zipWith, append-assoc, append-nil}
+use mathlib.Core.List.{List, [], _∷_, _++_, flatMap, append-assoc, append-nil}
 use Prim.Native.Nat.{ℕ, zero, suc, _+_, _-_, _*_, _≤_, _<_}
 use native.Mathlib.Nat.{mul-suc}
 use native.Mathlib.Omega.{arith}
 use lib.ListN.{length, take, drop, getD, set, replicate, length-append, length-take, length-drop, length-set}
-use lib.Seq.{take-all, take-at, take-take, drop-append-seam, drop-drop, drop-cons, drop-set-lt, drop-set-add, take-set-le, getD-set-same, getD-set-other}
+use lib.Seq.{take-all, take-at, take-take, drop-append-seam, drop-drop, drop-cons, drop-set-lt, drop-set-add, take-set-le, getD-set-same}
 use Rattle.lists.specs.Prefix.{take-more}
 
 module _ {A : Type 0} where
@@ -77,17 +77,6 @@ module _ {A : Type 0} where
   no-length [] e = refl
   no-length (x ∷ l) e = let z : ⊥ = omega arith in absurd z
 
-  -- a front of one element, and what a store there makes of it
-  pub front-one : (n : ℕ) (xs : List A) (d : A) → length (take n xs) ≡ 1 → take n xs ≡ getD xs 0 d ∷ []
-  front-one zero xs d e = let z : ⊥ = omega arith in absurd z
-  front-one (suc n) [] d e = let z : ⊥ = omega arith in absurd z
-  front-one (suc n) (x ∷ xs) d e = ap (_∷_ x) (no-length (take n xs) (omega arith))
-
-  pub front-put : (n : ℕ) (xs : List A) (a : A) → length (take n xs) ≡ 1 → take n (set xs 0 a) ≡ map (λ _. a) (take n xs)
-  front-put zero xs a e = let z : ⊥ = omega arith in absurd z
-  front-put (suc n) [] a e = let z : ⊥ = omega arith in absurd z
-  front-put (suc n) (x ∷ xs) a e = rw (no-length (take n xs) (omega arith))
-
   pub length-snoc : (xs : List A) (a : A) (k : ℕ) → length xs ≡ k → length (xs ++ (a ∷ [])) ≡ suc k
   length-snoc xs a k e = let b = length-append xs (a ∷ []) in omega arith
 
@@ -128,45 +117,6 @@ module _ {A : Type 0} where
   pub reads-all : (l : List A) (m : ℕ) (d : A) → length l ≡ m → reads l 0 m d ≡ l
   reads-all l m d e = reads-eq l 0 m d (omega arith) ∙ take-all m l (omega arith)
 
--- the places from i on
-abbrev pub from : ℕ → ℕ → List ℕ
-from i zero = []
-from i (suc m) = i ∷ from (suc i) m
-
-module _ {A : Type 0} (o : A) where
-  reads-behind : (l : List A) (i j m : ℕ) (x : A) → i < j → reads (set l i x) j m o ≡ reads l j m o
-  reads-behind l i j zero x h = refl
-  reads-behind l i j (suc m) x h = rw (getD-set-other l i j x o (λ e. omega arith), reads-behind l i (suc j) m x (omega arith))
-
-  pub reads-places : (l : List A) (i m : ℕ) → map (λ (j : ℕ). getD l j o) (from i m) ≡ reads l i m o
-  reads-places l i zero = refl
-  reads-places l i (suc m) = ap (_∷_ (getD l i o)) (reads-places l (suc i) m)
-
-  -- elements stored one by one at given places, as code writes them out
-  abbrev pub setsAt : List A → List ℕ → List A → List A
-  setsAt l (j ∷ js) (w ∷ ws) = setsAt (set l j w) js ws
-  setsAt l (j ∷ js) [] = l
-  setsAt l [] ws = l
-
-  module _ {B : Type 0} (f : A → B → A) where
-    -- each element is made of what then stands in its place, and stored there before the next is read
-    abbrev pub putBack : List A → List ℕ → List B → List A
-    putBack l (j ∷ js) (d ∷ ds) = f (getD l j o) d ∷ putBack (set l j (f (getD l j o) d)) js ds
-    putBack l (j ∷ js) [] = []
-    putBack l [] ds = []
-
-    pub put-more : (l : List A) (j : ℕ) (js : List ℕ) (a : A) (d : B) (ds : List B) (ws : List A) → a ≡ f (getD l j o) d → ws ≡ putBack (set l j a) js ds → a ∷ ws ≡ putBack l (j ∷ js) (d ∷ ds)
-    put-more l j js a d ds ws e h = rw (← e) (ap (_∷_ a) h)
-
-    -- at neighbouring places no element that is read was stored before
-    pub put-back : (l : List A) (i m : ℕ) (ds : List B) → putBack l (from i m) ds ≡ zipWith f (reads l i m o) ds
-    unfolding zipWith
-    put-back l i zero ds = refl
-    put-back l i (suc m) [] = refl
-    put-back l i (suc m) (d ∷ ds) =
-        let a = f (getD l i o) d in
-        ap (_∷_ a) (put-back (set l i a) (suc i) m ds ∙ ap (λ (xs : List A). zipWith f xs ds) (reads-behind l i (suc i) m a (omega arith)))
-
 module _ {A B : Type 0} (f : A → List B) where
   pub flat-append : (xs ys : List A) → flatMap f (xs ++ ys) ≡ flatMap f xs ++ flatMap f ys
   unfolding flatMap
@@ -185,12 +135,6 @@ module _ {A B : Type 0} (f : A → List B) where
       let b = length-flat n h xs in
       let c = h x in
       rw mul-suc (omega arith)
-
-module _ {A B C : Type 0} (f : B → List C) (g : A → B) where
-  pub flat-map : (xs : List A) → flatMap f (map g xs) ≡ flatMap (λ (a : A). f (g a)) xs
-  unfolding flatMap
-  flat-map [] = refl
-  flat-map (x ∷ xs) = ap (_++_ (f (g x))) (flat-map xs)
 
 -- a part of k further leaves one part less
 pub parts-left : (at k n j l : ℕ) → j < n → at + k * (n - j) ≡ l → at + k + k * (n - (j + 1)) ≡ l

@@ -60,13 +60,6 @@ module _ {A B : Type 0} where
       → Pass s (ys ++ (b ∷ [])) (w + 1) (i + 1) (set ws w a) vs
   pass-keep a b e p h = pass-put a b e (pass-skip p) (omega arith) (omega arith)
 
-  -- the element at i stays as it is
-  pub pass-stay : {s : A → B} {ys : List B} {i : ℕ} {ws vs : List A} (d : A) (b : B) → s (getD ws i d) ≡ b → Pass s ys i i ws vs → i < length vs
-      → Pass s (ys ++ (b ∷ [])) (i + 1) (i + 1) ws vs
-  pass-stay {s = s} {i = i} {ws = ws} d b e p h =
-      let in-ws : i < length ws = omega arith in
-      record { front = rw (take-more ws i d in-ws, map-append s, p .front, e); back = pass-skip p .back; size = p .size; order = omega arith }
-
   -- the first w are left as they are
   pub pass-from : (s : A → B) (w i : ℕ) (vs : List A) → w ≤ i → Pass s (map s (take w vs)) w i vs vs
   pass-from s w i vs h = record { front = refl; back = refl; size = refl; order = h }

@@ -1,7 +1,7 @@
 -- Laws on the first elements of a list, at the code's `i + 1`, for loops that count up.
 use mathlib.Core.Path.{_≡_, refl, ap, sym, _∙_}
 use mathlib.Core.List.{List, [], _∷_, _++_, map, append-assoc, map-append}
-use Prim.Native.Nat.{ℕ, zero, suc, _+_, _-_, _≤_, _<_, min}
+use Prim.Native.Nat.{ℕ, zero, suc, _+_, _≤_, _<_, min}
 use native.Mathlib.Numerals.{add-one}
 use native.Mathlib.Omega.{arith}
 use mathlib.Core.Bool.{Bool, true, false}
@@ -67,9 +67,6 @@ module _ {A B : Type 0} where
   map-drop f zero xs = refl
   map-drop f (suc k) [] = refl
   map-drop f (suc k) (x ∷ xs) = map-drop f k xs
-
-  pub map-part : (f : A → B) (i m : ℕ) (xs : List A) → take m (drop i (map f xs)) ≡ map f (take m (drop i xs))
-  map-part f i m xs = rw (map-take f m (drop i xs), map-drop f i xs)
 
   pub map-set : (f : A → B) (xs : List A) (k : ℕ) (a : A) → map f (set xs k a) ≡ set (map f xs) k (f a)
   map-set f [] k a = refl

@@ -2,7 +2,6 @@
 // A table is an array with a count; a pass reads it up to its count, and never past the array.
 
 ghost use mathlib.Core.Path.{_≡_};
-ghost use mathlib.Core.Bool.{Bool};
 ghost use mathlib.Core.List.{map, [], _∷_, _++_};
 ghost use Prim.Native.Nat.{_≤_};
 ghost use lib.ListN.{take};

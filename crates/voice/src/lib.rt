@@ -1,7 +1,6 @@
 // One voice (the Rust's Voice): what a call may make of it and ask of it, and a new one.
 
 ghost use mathlib.Core.Path.{_≡_};
-ghost use mathlib.Core.List.{map};
 ghost use Prim.Native.Nat.{_≤_};
 ghost use lib.ListN.{length, take};
 ghost use Rattle.model.specs.Voices.{releasedVoice, killedVoice, withSustained, withCopies, aimedAt, struckAgain};

@@ -1,11 +1,9 @@
 use mathlib.Core.Path.{refl, sym, _∙_}
-use Rattle.instrument.specs.View.{view}
 use Rattle.instrument.specs.Calls.{placedAs}
 use Rattle.instrument.proofs.Calls.{Free, free, barred-by, counts, barred-call}
 use Rattle.instrument.proofs.Ons.{spawn-ready, on-off, off-is, on-mono, poly-spent, poly-new}
 use Rattle.instrument.proofs.Sizes.{voices-long, held-long, next-fits}
 use borrow.Author.Needs.{needs}
-use native.Mathlib.Omega.{arith}
 use Rattle.instrument.proofs.Instrument.note_on.Statement.{statement}
 use Rattle.instrument.proofs.Instrument.note_on.Tie as tie
 

@@ -9,7 +9,7 @@ use Rattle.curves.proofs.Standing.{stands-glides}
 use Rattle.instrument.specs.declared.Instrument.{Instrument}
 use Rattle.instrument.specs.Calls.{refusalOf, blockedAs}
 use Rattle.instrument.proofs.Sizes.{voices-long, held-long}
-use Rattle.instrument.proofs.Calls.{free, few-voices, barred-by, counts, counted-of}
+use Rattle.instrument.proofs.Calls.{free, few-voices, barred-by}
 use Rattle.instrument.proofs.Plans.{ModulatedAs, modulated-on, modulated-off, plan-number, plan-refused, plan-fits, plan-room, plan-size, plan-done}
 use Rattle.instrument.proofs.Planning.{Gliding, gliding-start, rows-room, glide-moves, glide-stands, glided-table, glided-curve}
 use Rattle.instrument.proofs.Instrument.plan.Statement.{statement}
