@@ -275,130 +275,27 @@ impl Instrument {
         self.held.distinct()
     }
 
-    // Sustain pedal: on its release every sustained voice is released.
-    pub fn set_sustain(mut self, down: bool) -> Outcome
-        ensures { λ r. ⌜ CallAs self (Call.control (Control.pedal down)) r ⌝ }
+    // Starts a note, or goes on with the Mono voice; at velocity 0 it is a note-off.
+    pub fn note_on(self, note: u8, velocity: f32, built: bool) -> Outcome
+        ensures { λ r. ⌜ CallAs self (Call.noteOn note velocity built) r ⌝ }
     {
-        let number = barred(self.well_formed(), self.frames);
-        if number != 0 {
-            return refused(self, number);
+        let level = velocity_of(velocity);
+        if level == 0.0 {
+            return self.note_off(note);
         }
-        self.sustain = down;
-        if down {
-            return answered(Reply::Done, self);
-        }
-        let lifted = self.table.change_all(VoiceChange::Lift);
-        self.table = lifted;
-        answered(Reply::Done, self)
-    }
-
-    // Releases one voice by its handle.
-    pub fn release(mut self, handle: u64) -> Outcome
-        ensures { λ r. ⌜ CallAs self (Call.control (Control.release handle)) r ⌝ }
-    {
-        let number = barred(self.well_formed(), self.frames);
-        if number != 0 {
-            return refused(self, number);
-        }
-        let place = self.table.find_first(VoiceTest::Handle(handle));
-        if self.table.count <= place {
-            return answered(Reply::Released(false), self);
-        }
-        let after = self.table.change_at(place, VoiceChange::Release);
-        self.table = after;
-        answered(Reply::Released(true), self)
-    }
-
-    // Releases every voice and holds no note.
-    pub fn all_notes_off(mut self) -> Outcome
-        ensures { λ r. ⌜ CallAs self (Call.control Control.allOff) r ⌝ }
-    {
-        let number = barred(self.well_formed(), self.frames);
-        if number != 0 {
-            return refused(self, number);
-        }
-        let after = self.table.change_all(VoiceChange::Release);
-        self.table = after;
-        self.held.count = 0;
-        answered(Reply::Done, self)
-    }
-
-    // Bends every voice, and any struck later, by the wheel's factor.
-    pub fn set_bend(mut self, factor: f32) -> Outcome
-        ensures { λ r. ⌜ CallAs self (Call.control (Control.bend factor)) r ⌝ }
-    {
-        let number = barred(self.well_formed(), self.frames);
-        if number != 0 {
-            return refused(self, number);
-        }
-        self.bend = factor;
-        let bent = self.table
-            .change_all(VoiceChange::Copies(CopyChange::Bend(factor)));
-        self.table = bent;
-        answered(Reply::Done, self)
-    }
-
-    // Sets the cutoff of every copy, and of any built later.
-    pub fn set_brightness(mut self, scale: f32) -> Outcome
-        ensures { λ r. ⌜ CallAs self (Call.control (Control.brightness scale)) r ⌝ }
-    {
-        let number = barred(self.well_formed(), self.frames);
-        if number != 0 {
-            return refused(self, number);
-        }
-        let least = float32::max(scale, 0.01);
-        self.brightness = least;
-        let cut = self.table
-            .change_all(VoiceChange::Copies(CopyChange::Cutoff(least)));
-        self.table = cut;
-        answered(Reply::Done, self)
-    }
-
-    // Mono: the voice falls back to the newest note still held, or goes off where none is.
-    fn mono_note_off(mut self, note: u8) -> Outcome
-        requires { ⌜ barredBy self ≡ 0 ⌝ }
-        ensures { λ r. ⌜ Gives (monoOff (view self) note) r ⌝ }
-    {
-        let rest = self.held.without(note);
-        if rest.count == self.held.count {
-            return answered(Reply::Off(false), self);
-        }
-        self.held = rest;
-        if rest.count == 0 {
-            let off = self.table
-                .change_all(VoiceChange::OffSounding(self.sustain));
-            self.table = off;
-            return answered(Reply::Off(true), self);
-        }
-        let place = self.table.find_first(VoiceTest::Sounding);
-        let aimed = self.table.change_at(
-            place,
-            VoiceChange::AimAt(rest.newest(), self.design.glide),
-        );
-        self.table = aimed;
-        answered(Reply::Off(true), self)
-    }
-
-    // The newest voice of the note goes off.
-    pub fn note_off(mut self, note: u8) -> Outcome
-        ensures { λ r. ⌜ CallAs self (Call.control (Control.noteOff note)) r ⌝ }
-    {
         let number = barred(self.well_formed(), self.frames);
         if number != 0 {
             return refused(self, number);
         }
         let design = self.design;
         let mode = design.mode;
-        if let PlayMode::Mono { legato: _ } = mode {
-            return self.mono_note_off(note);
+        if let PlayMode::Mono { legato } = mode {
+            return self.mono_note_on(note, level, built, legato);
         }
-        let place = self.table.find_last(VoiceTest::Plays(note));
-        if self.table.count <= place {
-            return answered(Reply::Off(false), self);
+        if self.next_handle == 0xffff_ffff_ffff_ffff {
+            return refused(self, 8);
         }
-        let off = self.table.change_at(place, VoiceChange::Off(self.sustain));
-        self.table = off;
-        answered(Reply::Off(true), self)
+        self.spawn_voice(note, level, built)
     }
 
     // A new handle, with a voice where one was built; for the voice room is made.
@@ -454,27 +351,130 @@ impl Instrument {
         self.spawn_voice(note, velocity, built)
     }
 
-    // Starts a note, or goes on with the Mono voice; at velocity 0 it is a note-off.
-    pub fn note_on(self, note: u8, velocity: f32, built: bool) -> Outcome
-        ensures { λ r. ⌜ CallAs self (Call.noteOn note velocity built) r ⌝ }
+    // Mono: the voice falls back to the newest note still held, or goes off where none is.
+    fn mono_note_off(mut self, note: u8) -> Outcome
+        requires { ⌜ barredBy self ≡ 0 ⌝ }
+        ensures { λ r. ⌜ Gives (monoOff (view self) note) r ⌝ }
     {
-        let level = velocity_of(velocity);
-        if level == 0.0 {
-            return self.note_off(note);
+        let rest = self.held.without(note);
+        if rest.count == self.held.count {
+            return answered(Reply::Off(false), self);
         }
+        self.held = rest;
+        if rest.count == 0 {
+            let off = self.table
+                .change_all(VoiceChange::OffSounding(self.sustain));
+            self.table = off;
+            return answered(Reply::Off(true), self);
+        }
+        let place = self.table.find_first(VoiceTest::Sounding);
+        let aimed = self.table.change_at(
+            place,
+            VoiceChange::AimAt(rest.newest(), self.design.glide),
+        );
+        self.table = aimed;
+        answered(Reply::Off(true), self)
+    }
+
+    // The newest voice of the note goes off.
+    pub fn note_off(mut self, note: u8) -> Outcome
+        ensures { λ r. ⌜ CallAs self (Call.control (Control.noteOff note)) r ⌝ }
+    {
         let number = barred(self.well_formed(), self.frames);
         if number != 0 {
             return refused(self, number);
         }
         let design = self.design;
         let mode = design.mode;
-        if let PlayMode::Mono { legato } = mode {
-            return self.mono_note_on(note, level, built, legato);
+        if let PlayMode::Mono { legato: _ } = mode {
+            return self.mono_note_off(note);
         }
-        if self.next_handle == 0xffff_ffff_ffff_ffff {
-            return refused(self, 8);
+        let place = self.table.find_last(VoiceTest::Plays(note));
+        if self.table.count <= place {
+            return answered(Reply::Off(false), self);
         }
-        self.spawn_voice(note, level, built)
+        let off = self.table.change_at(place, VoiceChange::Off(self.sustain));
+        self.table = off;
+        answered(Reply::Off(true), self)
+    }
+
+    // Sustain pedal: on its release every sustained voice is released.
+    pub fn set_sustain(mut self, down: bool) -> Outcome
+        ensures { λ r. ⌜ CallAs self (Call.control (Control.pedal down)) r ⌝ }
+    {
+        let number = barred(self.well_formed(), self.frames);
+        if number != 0 {
+            return refused(self, number);
+        }
+        self.sustain = down;
+        if down {
+            return answered(Reply::Done, self);
+        }
+        let lifted = self.table.change_all(VoiceChange::Lift);
+        self.table = lifted;
+        answered(Reply::Done, self)
+    }
+
+    // Bends every voice, and any struck later, by the wheel's factor.
+    pub fn set_bend(mut self, factor: f32) -> Outcome
+        ensures { λ r. ⌜ CallAs self (Call.control (Control.bend factor)) r ⌝ }
+    {
+        let number = barred(self.well_formed(), self.frames);
+        if number != 0 {
+            return refused(self, number);
+        }
+        self.bend = factor;
+        let bent = self.table
+            .change_all(VoiceChange::Copies(CopyChange::Bend(factor)));
+        self.table = bent;
+        answered(Reply::Done, self)
+    }
+
+    // Sets the cutoff of every copy, and of any built later.
+    pub fn set_brightness(mut self, scale: f32) -> Outcome
+        ensures { λ r. ⌜ CallAs self (Call.control (Control.brightness scale)) r ⌝ }
+    {
+        let number = barred(self.well_formed(), self.frames);
+        if number != 0 {
+            return refused(self, number);
+        }
+        let least = float32::max(scale, 0.01);
+        self.brightness = least;
+        let cut = self.table
+            .change_all(VoiceChange::Copies(CopyChange::Cutoff(least)));
+        self.table = cut;
+        answered(Reply::Done, self)
+    }
+
+    // Releases one voice by its handle.
+    pub fn release(mut self, handle: u64) -> Outcome
+        ensures { λ r. ⌜ CallAs self (Call.control (Control.release handle)) r ⌝ }
+    {
+        let number = barred(self.well_formed(), self.frames);
+        if number != 0 {
+            return refused(self, number);
+        }
+        let place = self.table.find_first(VoiceTest::Handle(handle));
+        if self.table.count <= place {
+            return answered(Reply::Released(false), self);
+        }
+        let after = self.table.change_at(place, VoiceChange::Release);
+        self.table = after;
+        answered(Reply::Released(true), self)
+    }
+
+    // Releases every voice and holds no note.
+    pub fn all_notes_off(mut self) -> Outcome
+        ensures { λ r. ⌜ CallAs self (Call.control Control.allOff) r ⌝ }
+    {
+        let number = barred(self.well_formed(), self.frames);
+        if number != 0 {
+            return refused(self, number);
+        }
+        let after = self.table.change_all(VoiceChange::Release);
+        self.table = after;
+        self.held.count = 0;
+        answered(Reply::Done, self)
     }
 
     // Whether a handle is in the table.
