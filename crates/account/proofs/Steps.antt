@@ -8,7 +8,7 @@ use Rattle.lists.specs.Choose.{cond-true}
 use Rattle.design.specs.Accepted.{isAccepted}
 use Rattle.model.specs.Types.{Model, Call, Reply}
 use Rattle.model.specs.Step.{refusal, step}
-use Rattle.model.specs.Start.{fresh, zeroState}
+use Rattle.model.specs.Start.{fresh, zeroState, startOf}
 use Rattle.model.specs.Runs.{after, replies, table}
 use Rattle.model.specs.Account.{Account, HandleAccount}
 use Rattle.model.proofs.Runs.{handle-account}
@@ -73,7 +73,7 @@ module _ (m : Model) (k : Account m) (s : Instrument) (xs : List Ran) (f : Follo
   joined = rw (f .replied, f .last) (k .accounted (callsOf xs))
 
 pub calls-are-steps : CallsAreSteps
-unfolding CallsAreSteps HandleAccount
+unfolding CallsAreSteps HandleAccount startOf
 calls-are-steps d e r a xs g =
     let v : view (r .state) ≡ fresh d = a .state ∙ cond-true (isAccepted d) (fresh d) zeroState e in
     let f : Follows (fresh d) (r .state) xs = rw v at (follows (r .state) (a .inRoom) xs g) in

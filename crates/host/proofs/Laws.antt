@@ -13,6 +13,7 @@ use Rattle.envelope.specs.Start.{rateFits}
 use Rattle.envelope.specs.Ticks.{ticked}
 use Rattle.design.specs.Accepted.{numbersFit, designReply, isAccepted}
 use Rattle.model.specs.Types.{Model, Call, Reply, Outcome}
+use Rattle.model.specs.Start.{startOf}
 use Rattle.model.specs.Step.{refusal, lentTo, step}
 use Rattle.model.specs.Queries.{Answer}
 use Rattle.model.proofs.Refusals.{refused-by, step-refused}
@@ -165,7 +166,7 @@ pub begun : (d : InstrumentDesign) (n : NewInstrument) (t : HostState) (r : Host
 begun d n t r a w q = record { reply = q ∙ ap saidStart (a .reply); numbered = w .numbered ∙ a .inRoom; state = w .model ∙ a .state }
 
 pub started : (d : HostDesign) (r : HostOutcome) → modeNumbered d ≡ true → BegunAs (designOf d) r → HostStartAs d r
-unfolding hostDesignReply hostAccepted
+unfolding hostDesignReply hostAccepted startOf
 started d r sure b = record {
   reply = b .reply ∙ ap saidStart (sym (cond-true _ _ _ sure));
   numbered = b .numbered;
@@ -182,7 +183,7 @@ unfit d e = by (rateFits (d .«sample_rate»)) refl
     by false q = rw q
 
 pub unstarted : (d : HostDesign) (e : InstrumentDesign) (r : HostOutcome) → modeNumbered d ≡ false → e .«max_voices» ≡ 0 → BegunAs e r → HostStartAs d r
-unfolding hostDesignReply hostAccepted designReply isAccepted
+unfolding hostDesignReply hostAccepted designReply isAccepted startOf
 unstarted d e r fails m b =
     let f = unfit e m in
     record {

@@ -11,7 +11,7 @@ use Rattle.design.specs.declared.InstrumentDesign.{InstrumentDesign}
 use Rattle.design.specs.Accepted.{designReply, isAccepted}
 use Rattle.model.specs.Types.{Model, Call, Reply}
 use Rattle.model.specs.Step.{refusal, lentTo, step}
-use Rattle.model.specs.Start.{fresh, zeroState}
+use Rattle.model.specs.Start.{fresh, zeroState, startOf}
 use Rattle.model.specs.Queries.{Answer, VoiceOf}
 use Rattle.instrument.specs.declared.Instrument.{Instrument}
 use Rattle.wire.specs.declared.HostDesign.{HostDesign}
@@ -99,6 +99,6 @@ unread h = record { reply = refusing unformed; state = h }
 
 -- a start with a design that was read
 pub record BegunAs (d : InstrumentDesign) (r : HostOutcome) : Type 0 where
-  pub reply : r .reply ≡ saidStart (designReply d)
+  pub reply : r .reply ≡ saidStart (startOf d .reply)
   pub numbered : numbered (r .state) ≡ true
-  pub state : modelOf (r .state) ≡ cond (isAccepted d) (fresh d) zeroState
+  pub state : modelOf (r .state) ≡ startOf d .model

@@ -1,14 +1,13 @@
 -- Check 1 taken apart: the state is well formed exactly where each part of the check passes.
 use mathlib.Core.Path.{_≡_, refl, ap, sym, _∙_}
 use mathlib.Core.Bool.{Bool, true, false, _&&_}
-use mathlib.Core.List.{List, [], _∷_}
 use Prim.Native.Nat.{ℕ, _*_, _≤_}
 use native.Mathlib.Omega.{arith}
-use borrow.Author.Tests.{leb-true, le-leb, eqb-true}
+use borrow.Author.Tests.{leb-true, le-leb}
 use lib.Dec.{leb, eqb}
 use lib.ListN.{length, length-map, length-take}
 use Rattle.lists.specs.Choose.{both}
-use Rattle.lists.specs.All.{all, all-both, all-map}
+use Rattle.lists.specs.All.{all}
 use Rattle.lists.specs.Count.{count}
 use Rattle.lists.specs.Perms.{distinct}
 use Rattle.lists.specs.Prefix.{shown-length}
@@ -17,9 +16,9 @@ use Rattle.design.specs.declared.PlayMode.the-variants.{Poly, Mono}
 use Rattle.design.specs.Accepted.{isAccepted, copiesOf}
 use Rattle.model.specs.Voices.{sounding, handles, copiesIn}
 use Rattle.model.specs.Formed.{handleFits, copiesFit, stageFits, blockFits, modeFits, wellFormed}
-use Rattle.voice.specs.View.{Seen}
-use Rattle.table.specs.View.{seenIn, voicesOf, voicesIn, inRoom}
+use Rattle.table.specs.View.{seenIn, voicesIn, inRoom}
 use Rattle.table.specs.Check.{voiceFits, modeAgrees, tableFits}
+use Rattle.table.proofs.Each.{four, copies-even, fits-copies}
 use Rattle.held.specs.View.{numberOfNote, heldIn}
 use Rattle.instrument.specs.declared.Instrument.{Instrument}
 use Rattle.instrument.specs.View.{view, roomy, counted, formed, numbersFit}
@@ -43,34 +42,6 @@ pub record Parts (s : Instrument) : Type 0 where
 
 and-i : {a b : Bool} → a ≡ true → b ≡ true → (a && b) ≡ true
 and-i {a} {b} p q = rw (p, q)
-
--- what is asked of each voice, one question after the other
-module _ (next copies : ℕ) (l : List Seen) where
-  four : all (voiceFits next copies) l ≡ (inRoom l && (all (handleFits next) (voicesOf l) && (all (copiesFit copies) (voicesOf l) && all stageFits (voicesOf l))))
-  unfolding voiceFits
-  four =
-      all-both (λ (x : Seen). leb (x .count) 8) _ l
-      ∙ ap (λ (b : Bool). inRoom l && b)
-      (all-both (λ (x : Seen). handleFits next (x .voice)) _ l
-      ∙ ap (λ (b : Bool). all (λ (x : Seen). handleFits next (x .voice)) l && b) (all-both (λ (x : Seen). copiesFit copies (x .voice)) _ l)
-      ∙ rw (all-map (handleFits next) (λ (x : Seen). x .voice) l, all-map (copiesFit copies) (λ (x : Seen). x .voice) l, all-map stageFits (λ (x : Seen). x .voice) l))
-
--- voices of k copies each
-copies-even : (p : Seen → Bool) (k : ℕ) → ((x : Seen) → p x ≡ true → length (x .voice .copies) ≡ k) → (l : List Seen) → all p l ≡ true
-    → copiesIn (voicesOf l) ≡ length l * k
-copies-even p k f [] e = omega arith
-copies-even p k f (x ∷ l) e =
-    let a = both (p x) (all p l) e in
-    let d = f x (a .0) in
-    let h = copies-even p k f l (a .1) in
-    omega arith
-
-fits-copies : (next k : ℕ) (x : Seen) → voiceFits next k x ≡ true → length (x .voice .copies) ≡ k
-unfolding voiceFits
-fits-copies next k x e =
-    let b = both (leb (x .count) 8) _ e in
-    let c = both (handleFits next (x .voice)) _ (b .1) in
-    eqb-true (length (x .voice .copies)) k (both (copiesFit k (x .voice)) (stageFits (x .voice)) (c .1) .0)
 
 module _ (s : Instrument) (lv : length (s .table .voices) ≡ 64) (lh : length (s .held .notes) ≡ 256) where
   held-shown : s .held .count ≤ 256 → length (heldIn (s .held)) ≡ s .held .count

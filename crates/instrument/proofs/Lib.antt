@@ -8,6 +8,4 @@ pub mod Ons
 pub mod Starts
 pub mod Queries
 pub mod Plans
-pub mod Planning
-pub mod Retaining
 pub mod Mixes

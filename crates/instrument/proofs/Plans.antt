@@ -2,7 +2,7 @@
 use mathlib.Core.Path.{_≡_, refl, ap, sym, _∙_, fun-ext}
 use mathlib.Core.Bool.{Bool, true, false, not, cond}
 use mathlib.Core.List.{List, map}
-use Prim.Native.Nat.{ℕ, zero, suc, _*_, _≤_, _^_}
+use Prim.Native.Nat.{ℕ, _*_, _≤_, _^_}
 use native.Mathlib.Omega.{arith}
 use borrow.Author.Tests.{leb-true, eq-eqb, ne-eqb, eqb-true, eqb-false, not-false}
 use lib.Dec.{T, leb, eqb, le→leb}
@@ -22,14 +22,16 @@ use Rattle.model.specs.Types as M
 use Rattle.model.specs.Changes.{moved, blocked}
 use Rattle.model.specs.Formed.{framesFit, wellFormed}
 use Rattle.model.specs.Voices.{withCopies, copiesIn}
-use Rattle.model.specs.Plan.{vibratoFactor, filterFactor, tremoloGain, phaseAfter, wobbled, applied, modulatedBy, curves, opened, planOf}
+use Rattle.model.specs.Plan.{vibratoFactor, filterFactor, tremoloGain, phaseAfter, wobbled, applied, modulatedBy, opened, planOf}
 use Rattle.model.specs.Step.{noBlock, blockOpen, blockMissing, handlesSpent, refusal, lentTo, accepted, step}
 use Rattle.model.proofs.Laws.{modulated-copies}
 use Rattle.model.proofs.Refusals.{Passes, passes}
 use Rattle.voice.specs.View.{Seen}
 use Rattle.table.specs.View.{seenIn, voicesIn, Holds}
 use Rattle.table.specs.declared.Table.{Table}
+use Rattle.table.specs.Plans.{GlidedTable}
 use Rattle.table.proofs.Changes.{map-seen}
+use Rattle.table.proofs.Gliding.{glides-whole}
 use Rattle.voice.specs.Changes.{copyChanged, voiceChanged, onSeen}
 use Rattle.voice.specs.declared.CopyChange.the-variants.{Bend, Wobble}
 use Rattle.voice.specs.declared.VoiceChange.{VoiceChange}
@@ -184,39 +186,26 @@ module _ (s : Instrument) (n : ℕ) (vibrato filter sine : Float) (old : List Fl
     kept : Passes (view s) (M.Call.plan n vibrato filter sine old)
     kept = passes (view s) _ (refusal-in s _ (counted-of s _ e) ∙ e)
 
-    unbarred : Free s
-    unbarred = free s (by (barredBy s) refl)
-      where
-        by : (k : ℕ) → barredBy s ≡ k → barredBy s ≡ 0
-        by zero q = q
-        by (suc k) q = sym (bars s (M.Call.plan n vibrato filter sine old) refl (λ z. let w : suc k ≡ 0 = sym q ∙ z in let n : ⊥ = omega arith in n)) ∙ e
-
     pub plan-fits : (n ≤ 1024) × (rateFits (s .design .«sample_rate») ≡ true)
     unfolding wellFormed view
     plan-fits = (frames-most _ _ (not-false _ (kept .frames)), rate-fits _ (both (isAccepted (s .design)) _ (kept .well) .0))
 
     module _ (t : Instrument) (m : ModulatedAs s n vibrato filter sine t) where
-      in-room : counted t ≡ true
-      in-room = m .inRoom (counted-of s _ e)
-
-      pub plan-room : t .table .count ≤ 64
-      plan-room = counts t in-room .voices64
-
-      pub plan-size : n * copiesIn (voicesIn (t .table)) ≡ length old
+      plan-size : n * copiesIn (voicesIn (t .table)) ≡ length old
       unfolding view
       plan-size =
           let q : copiesIn (voicesIn (t .table)) ≡ copiesIn (view s .voices) = ap (λ (w : M.Model). copiesIn (w .voices)) (m .next) ∙ modulated-copies (view s) n vibrato filter sine in
           ap (_*_ n) q ∙ sym (eqb-true _ _ (not-false _ (kept .lengths)))
 
-      pub plan-done : (u : Table) (new : List Float) (r : Outcome) → Holds (map (onSeen (withCopies (glided n))) (seenIn (t .table))) u → new ≡ curves n (voicesIn (t .table))
-          → r ≡ answeredAs Planned (blockedAs t u n) → PlannedAs s n vibrato filter sine old new r
+      pub plan-done : (u : Table) (new : List Float) (r : Outcome) → GlidedTable n (t .table) old new u → r ≡ answeredAs Planned (blockedAs t u n) → PlannedAs s n vibrato filter sine old new r
       unfolding planOf opened view
-      plan-done u new r g c q =
-          let o = blocked-stands t (withCopies (glided n)) u g n in
+      plan-done u new r g q =
+          let w = glides-whole n (t .table) old new u (plan-fits .0) plan-size g in
+          let o = blocked-stands t (withCopies (glided n)) u (w .0) n in
           let same = ap (λ (w : M.Model). opened w n) (m .next) in
           rw q
           (record {
             call = accepted-call s _ (answeredAs Planned (blockedAs t u n)) e
-                (record { reply = refl; inRoom = o .inRoom in-room; next = o .next ∙ ap (λ (w : M.Outcome). w .model) same });
-            lent = c ∙ ap (λ (w : M.Outcome). w .lent) same ∙ accepted-lent s (M.Call.plan n vibrato filter sine old) e;
+                (record { reply = refl; inRoom = o .inRoom (m .inRoom (counted-of s _ e)); next = o .next ∙ ap (λ (w : M.Outcome). w .model) same });
+            lent = w .1 ∙ ap (λ (w : M.Outcome). w .lent) same ∙ accepted-lent s (M.Call.plan n vibrato filter sine old) e;
           })

@@ -2,16 +2,14 @@
 -- (document 01, "What a call replies").
 use mathlib.Core.Path.{_≡_}
 use mathlib.Core.Bool.{Bool, true, false, _&&_, cond}
-use mathlib.Core.List.{List, []}
+use mathlib.Core.List.{List}
 use Prim.Native.Nat.{ℕ}
 use lib.Dec.{eqb}
 use lib.Ieee.{Float}
-use Rattle.float32.specs.Numbers.{zero as +0}
 use Rattle.design.specs.declared.InstrumentDesign.{InstrumentDesign}
-use Rattle.design.specs.Accepted.{designReply, isAccepted}
 use Rattle.model.specs.Types as model
 use Rattle.model.specs.Step.{refusal, lentTo, step}
-use Rattle.model.specs.Start.{fresh, zeroState}
+use Rattle.model.specs.Start.{startOf}
 use Rattle.table.specs.declared.Table.{Table}
 use Rattle.held.specs.declared.Held.{Held}
 use Rattle.instrument.specs.View.{view, counted, formed}
@@ -55,28 +53,11 @@ pub record StepAs (s : Instrument) (c : model.Call) (said : model.Reply) (t : In
 abbrev pub CallAs : Instrument → model.Call → Outcome → Type 0
 CallAs s c r = StepAs s c (replyOf (r .reply)) (r .state)
 
--- a state with no voice and nothing held, whose scales are all `scale`
-unfoldable pub emptyModel : InstrumentDesign → ℕ → Float → model.Model
-emptyModel d next scale = record {
-  design = d;
-  voices = [];
-  next = next;
-  pedal = false;
-  bend = scale;
-  brightness = scale;
-  vibPhase = +0;
-  fltPhase = +0;
-  tremPhase = +0;
-  trem = scale;
-  held = [];
-  frames = 0;
-}
-
 -- a start: "2, 3 at the start"; "a refused start comes with a state of zeros, Poly, no block open"
 pub record StartAs (d : InstrumentDesign) (r : NewInstrument) : Type 0 where
-  pub reply : r .reply ≡ designReply d
+  pub reply : r .reply ≡ startOf d .reply
   pub inRoom : counted (r .state) ≡ true
-  pub state : view (r .state) ≡ cond (isAccepted d) (fresh d) zeroState
+  pub state : view (r .state) ≡ startOf d .model
 
 -- what a call gives where the checks have passed: a reply, and a state in room whose view is the next model
 pub record Gives (o : model.Outcome) (r : Outcome) : Type 0 where

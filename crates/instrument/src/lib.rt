@@ -4,13 +4,14 @@ ghost use mathlib.Core.Path.{_≡_};
 ghost use Rattle.design.specs.Accepted.{isAccepted};
 ghost use Rattle.model.specs.Types.{Control, Call};
 ghost use Rattle.model.specs.Formed.{framesFit, blockFits};
+ghost use Rattle.model.specs.Start.{emptyState};
 ghost use Rattle.model.specs.Queries.{isActive, activeVoices};
 ghost use mathlib.Core.Bool.{true};
 ghost use Prim.Native.Nat.{_<_};
 ghost use Rattle.design.specs.declared.PlayMode.the-variants.{Mono};
 ghost use Rattle.model.specs.Notes.{monoOff, velocityOf, newNote, monoOn, newHandleIn};
 ghost use Rattle.instrument.specs.View.{view, counted, numbersFit, formed as formedState};
-ghost use Rattle.instrument.specs.Calls.{emptyModel, StartAs, lastHandle, refusedAs, answeredAs, barredIn, barredBy, Gives, OnAs, CallAs};
+ghost use Rattle.instrument.specs.Calls.{StartAs, lastHandle, refusedAs, answeredAs, barredIn, barredBy, Gives, OnAs, CallAs};
 ghost use Rattle.instrument.specs.Asked.{answerOf, askedOf, VoiceAs};
 use design::DesignReply;
 use design::InstrumentDesign;
@@ -175,7 +176,7 @@ fn no_voice() -> Voice {
 impl Instrument {
     // A state with no voice and nothing held.
     fn empty(design: InstrumentDesign, next_handle: u64, scale: f32) -> Instrument
-        ensures { λ s. ⌜ (counted s ≡ true) × (view s ≡ emptyModel design «next_handle» scale) ⌝ }
+        ensures { λ s. ⌜ (counted s ≡ true) × (view s ≡ emptyState design «next_handle» scale) ⌝ }
     {
         let voice = no_voice();
         Instrument {
@@ -310,23 +311,10 @@ impl Instrument {
         }
         let design = self.design;
         let voice = new_voice(design, self.bend, self.brightness, handle, note, velocity);
-        let max = design.max_voices as usize;
-        let mut table = self.table;
-        let mut killed: u64 = 0;
-        if max <= table.count_of(VoiceTest::Sounding) {
-            let victim = table.quietest_sounding();
-            killed = table.voices[victim].handle;
-            table.voices[victim] = table.voices[victim].changed(VoiceChange::Kill);
-        }
-        let mut taken: u64 = 0;
-        if 2 * max <= table.count {
-            let victim = table.quietest();
-            taken = table.voices[victim].handle;
-            table = table.remove(victim);
-        }
-        let after = table.push(voice);
-        self.table = after;
-        answered(Reply::Started(handle, killed, taken), self)
+        let added = self.table.add(voice, design.max_voices);
+        let table = added.table;
+        self.table = table;
+        answered(Reply::Started(handle, added.killed, added.taken), self)
     }
 
     // Mono: the voice that sounds goes on with the note, else a new one is due.

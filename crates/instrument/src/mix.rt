@@ -58,13 +58,11 @@ fn mix_refusal(
 
 impl Instrument {
     // Sums the samples of every copy into both sides, drops the voices that have ended and closes the block.
-    // A voice that goes on moves up where some before it have ended.
     pub fn mix(mut self, samples: &[f32], out: &mut [f32]) -> MixOutcome
         ensures { λ r. ⌜ MixAs self (now (samples .entry)) (now (out .entry)) (now (out .exit)) r ⌝ }
     {
         let frames = self.frames;
-        let mut table = self.table;
-        let count = table.count;
+        let count = self.table.count;
         let formed = self.well_formed();
         let number = mix_refusal(formed, frames, count, self.design, samples.len(), out.len());
         if number != 0 {
@@ -73,25 +71,17 @@ impl Instrument {
         let mut left = [0.0f32; 1024];
         let mut right = [0.0f32; 1024];
         let mut ended = [0u64; 64];
-        let mut gone: usize = 0;
-        let mut at: usize = 0;
-        let mut i: usize = 0;
-        while i < count {
-            let v = table.voices[i];
-            let env = render::add_voice(v, frames, self.trem, samples, at, &mut left, &mut right);
-            at += frames * v.copies_shown();
-            table.voices[i] = render::with_env(table.voices[i], env);
-            if !render::goes_on(env) {
-                ended[gone] = v.handle;
-                gone += 1;
-            } else if 0 < gone {
-                table.voices[i - gone] = table.voices[i];
-            }
-            i += 1;
-        }
+        let after = self.table.mix(
+            frames,
+            self.trem,
+            samples,
+            &mut left,
+            &mut right,
+            &mut ended,
+        );
         render::put(&left, &right, frames, out);
-        table.count = count - gone;
-        self.table = table;
+        let gone = count - after.count;
+        self.table = after;
         self.frames = 0;
         mixed(self, gone, ended)
     }

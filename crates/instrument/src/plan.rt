@@ -15,9 +15,6 @@ use crate::answered;
 use crate::barred;
 use crate::frames_fit;
 use crate::refused;
-use curves::glide_voice;
-use curves::stands;
-use curves::write_standing;
 use design::InstrumentDesign;
 use design::Modulation;
 use lists::fills;
@@ -144,23 +141,8 @@ impl Instrument {
         if modulated(design) {
             self = self.apply_modulation(frames, vibrato, filter, sine);
         }
-        let mut table = self.table;
-        let count = table.count;
-        let mut at: usize = 0;
-        let mut i: usize = 0;
-        while i < count {
-            let v = table.voices[i];
-            let end = at + frames * v.copies_shown();
-            // A voice that stands need not be put back.
-            if stands(v) {
-                write_standing(v, frames, &mut curve[at..end]);
-            } else {
-                table.voices[i] = glide_voice(v, frames, &mut curve[at..end]);
-            }
-            at = end;
-            i += 1;
-        }
-        self.table = table;
+        let glided = self.table.glide(frames, curve);
+        self.table = glided;
         self.frames = frames;
         answered(Reply::Planned, self)
     }

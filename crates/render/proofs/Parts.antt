@@ -1,13 +1,13 @@
 -- A voice goes through a block in parts: the parts make the whole. And the first frames of a mix that has places for more.
 use mathlib.Core.Path.{_≡_, refl, ap, sym, _∙_}
 use mathlib.Core.List.{List, [], _∷_, _++_}
-use Prim.Native.Nat.{ℕ, zero, suc, _+_, _-_, _*_, _≤_, _<_}
+use Prim.Native.Nat.{ℕ, zero, suc, _+_, _-_, _*_, _≤_}
 use native.Mathlib.Nat.{mul-zero, mul-suc}
 use native.Mathlib.Omega.{arith}
 use lib.Ieee.{Float, binary32, add, mul}
-use lib.ListN.{length, take, drop, replicate, getD, take-append-drop}
+use lib.ListN.{length, take, drop, replicate, take-append-drop}
 use lib.Seq.{take-take, take-all, take-add, drop-drop}
-use Rattle.lists.specs.Prefix.{fold, fold-more, fold-see}
+use Rattle.lists.specs.Prefix.{fold, fold-see}
 use Rattle.lists.specs.Parts.{part-length, part-size, part-front, part-take, part-replicate, rest-on, part-rest}
 use Rattle.float32.specs.Numbers.{zero as +0}
 use Rattle.envelope.specs.declared.EnvGen.{EnvGen}
@@ -175,17 +175,6 @@ module _ (side : UnisonCopy → Float) (n : ℕ) where
       let e : n + n * length cs ≡ n * suc (length cs) = rw mul-suc (omega arith) in
       left-copies es (sideCopy side n es z c) cs ∙ drop-drop (n * length cs) n (z .samples) ∙ rw e
 
-  left-voice : (trem : Float) (z : Mixing) (v : model.Voice) → sideVoice side n trem z v .samples ≡ drop (n * length (v .copies)) (z .samples)
+  pub left-voice : (trem : Float) (z : Mixing) (v : model.Voice) → sideVoice side n trem z v .samples ≡ drop (n * length (v .copies)) (z .samples)
   unfolding sideVoice
   left-voice trem z v = left-copies (levels (v .gain) trem n (v .env)) z (v .copies)
-
-  -- v is the voice at i, with k copies
-  pub voice-more : (trem : Float) (xs : List Float) (z : Mixing) (vs : List model.Voice) (p i k : ℕ) (o w : List Float) (v : model.Voice)
-      → i < length vs → getD vs i model.noVoice ≡ v → k ≡ length (v .copies) → w ≡ sideVoice side n trem (mixing (drop p xs) o) v .sums
-      → mixing (drop p xs) o ≡ fold (sideVoice side n trem) z (take i vs)
-      → mixing (drop (p + n * k) xs) w ≡ fold (sideVoice side n trem) z (take (i + 1) vs)
-  voice-more trem xs z vs p i k o w v h g r e s =
-      let left : sideVoice side n trem (mixing (drop p xs) o) v .samples ≡ drop (p + n * k) xs =
-      rw (← r) at (left-voice trem (mixing (drop p xs) o) v ∙ drop-drop (n * length (v .copies)) p xs) in
-      let turn : mixing (drop (p + n * k) xs) w ≡ sideVoice side n trem (mixing (drop p xs) o) v = rw (← left, e) in
-      turn ∙ rw (s, fold-more (sideVoice side n trem) z vs i model.noVoice h, g)

@@ -19,7 +19,7 @@ use Rattle.forms.specs.declared.Form.{Form}
 use Rattle.forms.specs.declared.Form.the-variants.{Design, On}
 use Rattle.forms.specs.Forms.{DesignFits, OnFits, FormAs}
 use Rattle.model.specs.Types as model
-use Rattle.model.specs.Start.{fresh}
+use Rattle.model.specs.Start.{fresh, startOf}
 use Rattle.table.specs.View.{voicesIn}
 use Rattle.instrument.specs.declared.NewInstrument.{NewInstrument}
 use Rattle.instrument.specs.declared.Outcome.{Outcome}
@@ -58,6 +58,7 @@ module _ (b : Bool) (s : Session) (old new : List ℕ) (r : Said) (x : Stays s u
 
 pub no-design : (e d : InstrumentDesign) (made : NewInstrument) → d ≡ e → isAccepted e ≡ false → StartAs d made
     → NoDesign (record { ready = false; state = made .state })
+unfolding startOf
 no-design z d made is e p =
     record { ready = refl; inRoom = p .inRoom; state = p .state ∙ cond-false _ _ _ (ap isAccepted is ∙ e) }
 
@@ -67,6 +68,7 @@ module _ (b : Bool) (s : Session) (f : DesignForm) (d : InstrumentDesign) (made 
     (e : b ≡ false) (is : d ≡ designOf f) (p : StartAs d made) where
   pub design-refused : (n k : ℕ) → made .reply ≡ Refused n → k ≡ refusalNumber (made .reply) → Printed (refusedText k) old new count
       → DesignDoes b s (designOf f) old new (record { session = s; count = count })
+  unfolding startOf
   design-refused n k w h q =
       let g : designReply (designOf f) ≡ Refused n = sym (ap designReply is) ∙ sym (p .reply) ∙ w in
       rw e (record {
@@ -81,6 +83,7 @@ module _ (b : Bool) (s : Session) (f : DesignForm) (d : InstrumentDesign) (made 
 
   pub design-ready : made .reply ≡ Accepted → Printed readyText old new count
       → DesignDoes b s (designOf f) old new (record { session = record { ready = true; state = made .state }; count = count })
+  unfolding startOf
   design-ready w q =
       let g : designReply d ≡ Accepted = sym (p .reply) ∙ w in
       rw e (record {

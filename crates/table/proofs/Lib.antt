@@ -7,3 +7,8 @@ pub mod Checks
 pub mod Handles
 pub mod Looking
 pub mod Fits
+pub mod Adding
+pub mod Each
+pub mod Gliding
+pub mod Retaining
+pub mod Mixing

@@ -1,2 +1,5 @@
 pub mod View
 pub mod Check
+pub mod Room
+pub mod Plans
+pub mod Mixes

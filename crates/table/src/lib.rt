@@ -7,23 +7,33 @@ ghost use Prim.Native.Nat.{_≤_};
 ghost use lib.ListN.{take};
 ghost use Rattle.lists.specs.Count.{oneIf, count};
 ghost use Rattle.lists.specs.Least.{lowest, lowestNext};
-ghost use Rattle.lists.specs.Places.{findAt, lastAt, without};
+ghost use Rattle.lists.specs.Places.{findAt, lastAt};
 ghost use Rattle.model.specs.Types.{noVoice};
 ghost use Rattle.model.specs.Voices.{handleAt, quieter as quieterOf, quietestSounding, quietest as quietestOf};
 ghost use Rattle.voice.specs.View.{shown, seen};
 ghost use Rattle.voice.specs.Changes.{testOf, voiceChanged, onSeen};
 ghost use Rattle.table.specs.View.{seenIn, voicesIn, changedAt, Holds};
+ghost use Rattle.table.specs.Room.{reached as reachedOf, AddedAs};
 use lists::smaller;
 use voice::Voice;
 use voice::VoiceChange;
 use voice::VoiceTest;
 
 mod check;
+mod mix;
+mod plan;
 
 pub struct Table {
     pub voices: [Voice; 64],
     // How many of them are live, in order of birth.
     pub count: usize,
+}
+
+// A table with a voice more, and the handles of the voices killed and taken out for it, 0 for none.
+pub struct Added {
+    pub table: Table,
+    pub killed: u64,
+    pub taken: u64,
 }
 
 fn one_if(b: bool) -> usize
@@ -57,6 +67,16 @@ fn quietest_next(i: usize, k: usize, passes: bool, under: bool) -> usize
         return k;
     }
     i + 1
+}
+
+// Whether a limit is reached and there is a voice to steal.
+fn reached(n: usize, most: usize) -> bool
+    ensures { λ b. ⌜ b ≡ reachedOf n most ⌝ }
+{
+    if n < 1 {
+        return false;
+    }
+    most <= n
 }
 
 impl Table {
@@ -169,22 +189,6 @@ impl Table {
         self
     }
 
-    // Without the voice at a place: those behind it move down.
-    pub fn remove(mut self, place: usize) -> Table
-        ensures { λ r. ⌜ Holds (without place (seenIn self)) r ⌝ }
-    {
-        self.count = smaller(self.count, 64);
-        if place < self.count {
-            let mut i = place + 1;
-            while i < self.count {
-                self.voices[i - 1] = self.voices[i];
-                i += 1;
-            }
-            self.count -= 1;
-        }
-        self
-    }
-
     // One voice more, where there is room.
     pub fn push(mut self, voice: Voice) -> Table
         ensures { λ r. ⌜ Holds (take 64 (seenIn self ++ (seen voice ∷ []))) r ⌝ }
@@ -196,5 +200,37 @@ impl Table {
             self.count = end + 1;
         }
         self
+    }
+
+    // One voice more, for which room is made: where `max` voices are not releasing the quietest of them is killed, then
+    // where there are twice as many in all the quietest is taken out, and those behind it move down.
+    pub fn add(mut self, voice: Voice, max: u32) -> Added
+        ensures { λ r. ⌜ AddedAs max self voice r ⌝ }
+    {
+        self.count = smaller(self.count, 64);
+        let most = max as usize;
+        let mut killed: u64 = 0;
+        if reached(self.count_of(VoiceTest::Sounding), most) {
+            let victim = self.quietest_sounding();
+            killed = self.voices[victim].handle;
+            self.voices[victim] = self.voices[victim].changed(VoiceChange::Kill);
+        }
+        let mut taken: u64 = 0;
+        if reached(self.count, 2 * most) {
+            let victim = self.quietest();
+            taken = self.voices[victim].handle;
+            let mut i = victim + 1;
+            while i < self.count {
+                self.voices[i - 1] = self.voices[i];
+                i += 1;
+            }
+            self.count -= 1;
+        }
+        let table = self.push(voice);
+        Added {
+            table,
+            killed,
+            taken,
+        }
     }
 }
