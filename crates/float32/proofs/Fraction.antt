@@ -3,7 +3,32 @@ use mathlib.Core.Path.{_≡_, refl, sym, ap, _∙_, subst}
 use mathlib.Core.Bool.{Bool, true, false, not, _&&_, cond}
 use mathlib.Core.Logic.{_⊎_, inl, inr}
 use Prim.Native.Nat.{ℕ, suc, _*_, _+_, _-_, _/_, _%_, _^_, _<_, _≤_}
-use native.Mathlib.Nat.{zero-mul, mul-one, one-mul, mul-assoc, mul-comm, mul-right-comm, mul-pos, mod-one, mod-le, div-add-mod', add-mul, div-le-self, le-trans, le-of-eq, le-of-lt, lt-of-not-le, not-le-of-lt, div-one, mul-lt-mul-of-pos-right, lt-of-le-of-lt, lt-of-lt-of-le, eq-zero-or-pos, lt-irrefl, zero-lt-suc}
+use native.Mathlib.Nat.{
+  zero-mul,
+  mul-one,
+  one-mul,
+  mul-assoc,
+  mul-comm,
+  mul-right-comm,
+  mul-pos,
+  mod-one,
+  mod-le,
+  div-add-mod',
+  add-mul,
+  div-le-self,
+  le-trans,
+  le-of-eq,
+  le-of-lt,
+  lt-of-not-le,
+  not-le-of-lt,
+  div-one,
+  mul-lt-mul-of-pos-right,
+  lt-of-le-of-lt,
+  lt-of-lt-of-le,
+  eq-zero-or-pos,
+  lt-irrefl,
+  zero-lt-suc,
+}
 use native.Mathlib.Omega.{arith}
 use borrow.Author.Tests.{le-ltb, lt-ltb, eq-eqb, ne-eqb}
 use lib.Dec.{T, ltb, eqb, lit≤}

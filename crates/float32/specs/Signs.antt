@@ -16,7 +16,25 @@ use lib.Ieee.Scale.{finite}
 use lib.Ieee.Positive.{above, above-of-le, first-pos}
 use lib.Pow.{pow-pos}
 use Rattle.float32.specs.Numbers.{zero as none, one}
-use Rattle.float32.specs.Rounded.{empty, near, round-signed, round-zero, at-most, at-most-back, beyond, positive-low, negative-high, round-high, sum-same, sum-more, sum-less, add-is, sub-is, div-is, small}
+use Rattle.float32.specs.Rounded.{
+  empty,
+  near,
+  round-signed,
+  round-zero,
+  at-most,
+  at-most-back,
+  beyond,
+  positive-low,
+  negative-high,
+  round-high,
+  sum-same,
+  sum-more,
+  sum-less,
+  add-is,
+  sub-is,
+  div-is,
+  small,
+}
 
 -- a number with a minus that is not below 0 is -0
 no-minus : (m : ℕ) (e : ℤ) → le none (fin true m e) ≡ true → m ≡ 0
@@ -200,7 +218,9 @@ unfolding le ofBits
 rest-nonnegative nan l h = absurd (false≢true l)
 rest-nonnegative (inf true) l h = absurd (false≢true l)
 rest-nonnegative (inf false) l h = absurd (false≢true h)
-rest-nonnegative (fin s m e) l h = ap (le none) (sub-is false 1 (pos 0) s m e) ∙ difference-low s (1 * down e) (m * up e * 1) (1 * down e) (le-trans (under-one s m e (pos 0) l h) (le-of-eq (mul-comm (down e) 1)))
+rest-nonnegative (fin s m e) l h =
+    ap (le none) (sub-is false 1 (pos 0) s m e)
+    ∙ difference-low s (1 * down e) (m * up e * 1) (1 * down e) (le-trans (under-one s m e (pos 0) l h) (le-of-eq (mul-comm (down e) 1)))
 
 above-none : (n : ℕ) (d : ℤ) → 0 * down d < n * up d * 1 → 0 < n
 above-none n d h = first-pos n (up d) (first-pos (n * up d) 1 (lt-of-le-of-lt zero-le h))

@@ -76,14 +76,37 @@ DesignParts = ℕ × (ℕ × (ℕ × (ℕ × (ℕ × (Sound)))))
 
 abbrev pub designParts : DesignParts → List ℕ
 designParts p =
-    decimalPart openDesign (p .0) ++ (decimalPart thenMax (p .1 .0) ++ (modePart thenMode (p .1 .1 .0) ++ (decimalPart thenUnison (p .1 .1 .1 .0) ++ (wordPart space (p .1 .1 .1 .1 .0) ++ (soundText (p .1 .1 .1 .1 .1))))))
+    decimalPart openDesign (p .0)
+    ++ (decimalPart thenMax (p .1 .0)
+    ++ (modePart thenMode (p .1 .1 .0)
+    ++ (decimalPart thenUnison (p .1 .1 .1 .0)
+    ++ (wordPart space (p .1 .1 .1 .1 .0) ++ (soundText (p .1 .1 .1 .1 .1))))))
 
 abbrev pub DesignPartsFit : DesignParts → Type 0
 DesignPartsFit p =
     (p .0 ≤ 0xffff_ffff) × ((p .1 .0 ≤ 0xffff_ffff) × ((p .1 .1 .0 < 3) × ((p .1 .1 .1 .0 ≤ 0xffff_ffff) × (Below32 (p .1 .1 .1 .1 .0) × (SoundFits (p .1 .1 .1 .1 .1))))))
 
 abbrev designOf : DesignParts → DesignForm
-designOf p = let q = p .1 .1 .1 .1 .1 in record { rate = p .0; max = p .1 .0; mode = p .1 .1 .0; unison = p .1 .1 .1 .0; width = p .1 .1 .1 .1 .0; a = q .0; d = q .1 .0; s = q .1 .1 .0; r = q .1 .1 .1 .0; glide = q .1 .1 .1 .1 .0; «vibrato_rate» = q .1 .1 .1 .1 .1 .0; «vibrato_cents» = q .1 .1 .1 .1 .1 .1 .0; «tremolo_rate» = q .1 .1 .1 .1 .1 .1 .1 .0; «tremolo_depth» = q .1 .1 .1 .1 .1 .1 .1 .1 .0; «filter_rate» = q .1 .1 .1 .1 .1 .1 .1 .1 .1 .0; «filter_octaves» = q .1 .1 .1 .1 .1 .1 .1 .1 .1 .1 }
+designOf p =
+    let q = p .1 .1 .1 .1 .1 in
+    record {
+      rate = p .0;
+      max = p .1 .0;
+      mode = p .1 .1 .0;
+      unison = p .1 .1 .1 .0;
+      width = p .1 .1 .1 .1 .0;
+      a = q .0;
+      d = q .1 .0;
+      s = q .1 .1 .0;
+      r = q .1 .1 .1 .0;
+      glide = q .1 .1 .1 .1 .0;
+      «vibrato_rate» = q .1 .1 .1 .1 .1 .0;
+      «vibrato_cents» = q .1 .1 .1 .1 .1 .1 .0;
+      «tremolo_rate» = q .1 .1 .1 .1 .1 .1 .1 .0;
+      «tremolo_depth» = q .1 .1 .1 .1 .1 .1 .1 .1 .0;
+      «filter_rate» = q .1 .1 .1 .1 .1 .1 .1 .1 .1 .0;
+      «filter_octaves» = q .1 .1 .1 .1 .1 .1 .1 .1 .1 .1;
+    }
 
 pub design-line : (l : List ℕ) (b : Read) (found : Bool) (v : DesignParts) (next : ℕ) → b ≡ begun
     → Led designParts DesignPartsFit AtEnd l (b .ok) (b .next) found v next → DesignReadAs l (record { ok = found; form = designOf v })
@@ -91,11 +114,33 @@ design-line l b found v next e p = record {
   yes = λ f.
       let y = line-yes designParts DesignPartsFit l b found v next e p f in
       let h = y .0 in
-      let k = h .1 .1 .1 .1 .1 in
-      (record { rate = under (h .0); max = under (h .1 .0); mode = h .1 .1 .0; unison = under (h .1 .1 .1 .0); width = h .1 .1 .1 .1 .0; a = k .0; d = k .1 .0; s = k .1 .1 .0; r = k .1 .1 .1 .0; glide = k .1 .1 .1 .1 .0; vibratoRate = k .1 .1 .1 .1 .1 .0; vibratoCents = k .1 .1 .1 .1 .1 .1 .0; tremoloRate = k .1 .1 .1 .1 .1 .1 .1 .0; tremoloDepth = k .1 .1 .1 .1 .1 .1 .1 .1 .0; filterRate = k .1 .1 .1 .1 .1 .1 .1 .1 .1 .0; filterOctaves = k .1 .1 .1 .1 .1 .1 .1 .1 .1 .1 }, y .1);
+      let k = h .1 .1 .1 .1 .1 in (
+        record {
+          rate = under (h .0);
+          max = under (h .1 .0);
+          mode = h .1 .1 .0;
+          unison = under (h .1 .1 .1 .0);
+          width = h .1 .1 .1 .1 .0;
+          a = k .0;
+          d = k .1 .0;
+          s = k .1 .1 .0;
+          r = k .1 .1 .1 .0;
+          glide = k .1 .1 .1 .1 .0;
+          vibratoRate = k .1 .1 .1 .1 .1 .0;
+          vibratoCents = k .1 .1 .1 .1 .1 .1 .0;
+          tremoloRate = k .1 .1 .1 .1 .1 .1 .1 .0;
+          tremoloDepth = k .1 .1 .1 .1 .1 .1 .1 .1 .0;
+          filterRate = k .1 .1 .1 .1 .1 .1 .1 .1 .1 .0;
+          filterOctaves = k .1 .1 .1 .1 .1 .1 .1 .1 .1 .1;
+        },
+        y .1,
+      );
   only = λ f h s.
-      let v₁ : DesignParts = (f .rate, (f .max, (f .mode, (f .unison, (f .width, (f .a, (f .d, (f .s, (f .r, (f .glide, (f .«vibrato_rate», (f .«vibrato_cents», (f .«tremolo_rate», (f .«tremolo_depth», (f .«filter_rate», f .«filter_octaves»))))))))))))))) in
-      let x = line-only designParts DesignPartsFit l b found v next e p v₁ (within (h .rate), (within (h .max), (h .mode, (within (h .unison), (h .width, (h .a, (h .d, (h .s, (h .r, (h .glide, (h .vibratoRate, (h .vibratoCents, (h .tremoloRate, (h .tremoloDepth, (h .filterRate, h .filterOctaves))))))))))))))) s in
+      let sound : Sound = (f .a, (f .d, (f .s, (f .r, (f .glide, (f .«vibrato_rate», (f .«vibrato_cents», (f .«tremolo_rate», (f .«tremolo_depth», (f .«filter_rate», f .«filter_octaves»)))))))))) in
+      let v₁ : DesignParts = (f .rate, (f .max, (f .mode, (f .unison, (f .width, sound))))) in
+      let soundFits : SoundFits sound = (h .a, (h .d, (h .s, (h .r, (h .glide, (h .vibratoRate, (h .vibratoCents, (h .tremoloRate, (h .tremoloDepth, (h .filterRate, h .filterOctaves)))))))))) in
+      let fits : DesignPartsFit v₁ = (within (h .rate), (within (h .max), (h .mode, (within (h .unison), (h .width, soundFits))))) in
+      let x = line-only designParts DesignPartsFit l b found v next e p v₁ fits s in
       (x .0, ap designOf (x .1));
 }
 

@@ -7,7 +7,7 @@ use native.Mathlib.Omega.{arith}
 use borrow.Author.Tests.{eq-eqb, ne-eqb, eqb-true, eqb-false, not-false}
 use lib.Dec.{eqb}
 use lib.Ieee.{Float}
-use lib.ListN.{length, replicate}
+use lib.ListN.{length, take, replicate, length-take}
 use Rattle.lists.specs.Choose.{both, clash}
 use Rattle.float32.specs.Numbers.{zero as +0}
 use Rattle.design.specs.declared.InstrumentDesign.{InstrumentDesign}
@@ -16,8 +16,9 @@ use Rattle.model.specs.Types as M
 use Rattle.model.specs.Changes.{blocked}
 use Rattle.model.specs.Formed.{blockFits, wellFormed}
 use Rattle.model.specs.Voices.{copiesIn}
-use Rattle.model.specs.Mix.{output, played, mixOf}
+use Rattle.model.specs.Mix.{onLeft, onRight, output, played, mixOf}
 use Rattle.model.specs.Step.{noBlock, blockOpen, blockMissing, handlesSpent, refusal}
+use Rattle.model.proofs.Laws.{length-side}
 use Rattle.model.proofs.Refusals.{Passes, passes}
 use Rattle.table.specs.View.{voicesIn}
 use Rattle.table.specs.Mixes.{MixedTable}
@@ -118,12 +119,14 @@ module _ (s : Instrument) (xs old : List Float) where
         let size = mix-played .size in
         roomy-of t (s .held) (omega arith) (parts .held256) (mix-played .room (counts s (counted-of s _ e) .room))
 
-    pub mix-done : (new : List Float) (r : MixOutcome) → length left ≡ 1024 → length right ≡ 1024 → PutAs left right (s .frames) old new
-        → r ≡ mixedAs (blockedAs s t 0) (s .table .count - t .count) ended → MixAs s xs old new r
+    pub mix-done : (new : List Float) (r : MixOutcome) → PutAs left right (s .frames) old new → r ≡ mixedAs (blockedAs s t 0) (s .table .count - t .count) ended → MixAs s xs old new r
     unfolding output view mixOf played blocked blockedAs
-    mix-done new r l m o q =
+    mix-done new r o q =
         let p = mix-played in
-        let n = short in
+        let ll : length (take (s .frames) left) ≡ s .frames = ap length (p .leftSums) ∙ length-side onLeft _ _ _ _ in
+        let lr : length (take (s .frames) right) ≡ s .frames = ap length (p .rightSums) ∙ length-side onRight _ _ _ _ in
+        let ml = length-take (s .frames) left in
+        let mr = length-take (s .frames) right in
         let put = o .written (record { leftSums = omega arith; rightSums = omega arith; places = lengths .1 }) in
         rw q
         (record {

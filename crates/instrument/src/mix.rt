@@ -79,10 +79,10 @@ impl Instrument {
             &mut right,
             &mut ended,
         );
-        render::put(&left, &right, frames, out);
         let gone = count - after.count;
         self.table = after;
         self.frames = 0;
+        render::put(&left, &right, frames, out);
         mixed(self, gone, ended)
     }
 }

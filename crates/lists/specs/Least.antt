@@ -109,7 +109,9 @@ module _ {A : Type 0} (d : A) (below : A → A → Bool) (p : A → Bool) where
 
         by : (x : Bool) → p a ≡ x → (y : Bool) → leb (length rest) k ≡ y → (z : Bool) → below (getD rest k d) a ≡ z → (1 ≤ count p rest → Lowest rest k)
             → Lowest (a ∷ rest) (cond (p a && (leb (length rest) k || not (below (getD rest k d) a))) 0 (suc k))
-        by true e true f z g ih = rw (e, f) (head-low a rest e (λ j hj q. let i = ih (count-at d p rest j hj q) .inside in let n : length rest ≤ k = leb-true _ _ f in let n : ⊥ = omega arith in absurd n))
+        by true e true f z g ih =
+            rw (e, f)
+            (head-low a rest e (λ j hj q. let i = ih (count-at d p rest j hj q) .inside in let n : length rest ≤ k = leb-true _ _ f in let n : ⊥ = omega arith in absurd n))
         by true e false f false g ih = rw (e, f, g) (head-low a rest e (λ j hj q. o .through a (getD rest k d) (getD rest j d) g (ih (count-at d p rest j hj q) .low j hj q)))
         by true e false f true g ih = rw (e, f, g) (tail-low a rest k (λ _. g) (ih (found-counts rest (leb-false _ _ f))))
         by false e y f z g ih = rw e (tail-low a rest k (λ q. absurd (clash (p a) q e)) (ih (let t : 1 ≤ oneIf false + count p rest = rw e at h in omega arith)))
@@ -137,7 +139,9 @@ module _ {A : Type 0} (d : A) (below : A → A → Bool) (p : A → Bool) where
         record {
           inside = omega (arith, size);
           passes = rw here t;
-          low = λ j h. each-more d (λ (x : A). p x ≡ true → below x (getD (xs ++ (a ∷ [])) (length xs) d) ≡ false) xs a (λ j h q. rw here (o .oneWay a (getD xs j d) (f j h q))) (λ q. rw here (itself a)) j (omega (arith, size));
+          low = λ j h.
+              each-more d (λ (x : A). p x ≡ true → below x (getD (xs ++ (a ∷ [])) (length xs) d) ≡ false) xs a
+              (λ j h q. rw here (o .oneWay a (getD xs j d) (f j h q))) (λ q. rw here (itself a)) j (omega (arith, size));
           first = λ j h q.
               let e : getD (xs ++ (a ∷ [])) j d ≡ getD xs j d = List·getD-append xs (a ∷ []) d j h in
               rw (here, e) (f j h (rw e at q));
@@ -196,7 +200,8 @@ module _ {A : Type 0} (d : A) (below : A → A → Bool) (p : A → Bool) where
         let e = take-more xs i d h in
         let size : length ys ≡ i = length-take-le i xs (omega arith) in
         let low = lowest-le ys in
-        let k : getD (ys ++ (getD xs i d ∷ [])) (lowest ys) d ≡ getD xs (lowest ys) d = ap (λ (l : List A). getD l (lowest ys) d) (sym e) ∙ getD-take (i + 1) xs (lowest ys) d (omega (arith, size, low)) in
+        let there = getD-take (i + 1) xs (lowest ys) d (omega (arith, size, low)) in
+        let k : getD (ys ++ (getD xs i d ∷ [])) (lowest ys) d ≡ getD xs (lowest ys) d = ap (λ (l : List A). getD l (lowest ys) d) (sym e) ∙ there in
         ap lowest e ∙ lowest-snoc ys (getD xs i d) ∙ rw (k, size)
 
 -- an order and a test that go through a view are those of the view

@@ -237,8 +237,14 @@ module _ (l : List ℕ) (at most : ℕ) where
     none-more h k = by value refl
       where
         by : (n : ℕ) → value ≡ n → DecimalAs most l at (missing at)
-        by zero z = none (λ v rest _ g e. after v rest g (sym e ∙ s .whole ∙ ap (λ (n : ℕ). decimalText n ++ drop next l) z ∙ ap (λ (t : List ℕ). t ++ drop next l) (text-one 0 (omega arith)) ∙ ap (_∷_ 48) (f .yes h)))
+        by zero z = none (λ v rest _ g e. after v rest g (sym e ∙ begins))
           where
+            begins : drop at l ≡ 48 ∷ figure d ∷ drop (next + 1) l
+            begins =
+                s .whole ∙ ap (λ (n : ℕ). decimalText n ++ drop next l) z
+                ∙ ap (λ (t : List ℕ). t ++ drop next l) (text-one 0 (omega arith))
+                ∙ ap (_∷_ 48) (f .yes h)
+
             after : (v : ℕ) (rest : List ℕ) → NoDigit rest → decimalText v ++ rest ≡ 48 ∷ figure d ∷ drop (next + 1) l → ⊥
             after zero rest g e = g d (drop (next + 1) l) h (tail-same (sym (ap (λ (t : List ℕ). t ++ rest) (text-one 0 (omega arith))) ∙ e))
             after (suc v) rest g e = text-leads (suc v) rest _ (omega arith) e

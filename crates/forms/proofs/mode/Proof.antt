@@ -26,7 +26,10 @@ read-at-requires-2 : tie.Need-read-at-requires-2
 read-at-requires-2 c κs = search needs
 
 returns-2 : tie.Need-returns-2
-returns-2 c = rw (c .read-at2 .ensures) (is-mono _ _ _ _ _ _ (c .before .before .before .before .before .led-words .ensures) (c .before .before .before .before .if1 .left) _ _ _ (c .before .before .led-words2 .ensures) (c .before .if2 .taken))
+returns-2 c =
+    let e = c .before .before .before .before in
+    rw (c .read-at2 .ensures)
+    (is-mono _ _ _ _ _ _ (e .before .led-words .ensures) (e .if1 .left) _ _ _ (c .before .before .led-words2 .ensures) (c .before .if2 .taken))
 
 slice-aggregate-led-words-3 : tie.Need-slice-aggregate-led-words-3
 slice-aggregate-led-words-3 c = search needs
@@ -38,7 +41,11 @@ read-at-requires-3 : tie.Need-read-at-requires-3
 read-at-requires-3 c κs = search needs
 
 returns-3 : tie.Need-returns-3
-returns-3 c = rw (c .read-at3 .ensures) (is-legato _ _ _ _ _ _ (c .before .before .before .before .before .before .before .led-words .ensures) (c .before .before .before .before .before .before .if1 .left) _ _ _ (c .before .before .before .before .led-words2 .ensures) (c .before .before .before .if2 .left) _ _ _ (c .before .led-words3 .ensures))
+returns-3 c =
+    let f = c .before .before .before in
+    let e = f .before .before .before in
+    rw (c .read-at3 .ensures)
+    (is-legato _ _ _ _ _ _ (e .before .led-words .ensures) (e .if1 .left) _ _ _ (f .before .led-words2 .ensures) (f .if2 .left) _ _ _ (c .before .led-words3 .ensures))
 
 pub mode-spec : {M : Type 1} → statement M
 mode-spec =

@@ -17,7 +17,9 @@ read-on-requires : tie.Need-read-on-requires
 read-on-requires c κs = search needs
 
 returns-3 : tie.Need-returns-3
-returns-3 c = is-on _ (c .before .before .before .before .before .if1 .left) _ (c .before .before .before .before .read-design .ensures) (c .before .before .before .if2 .left) _ (c .before .before .read-on .ensures) (c .before .if3 .taken)
+returns-3 c =
+    let e = c .before .before .before in
+    is-on _ (e .before .before .if1 .left) _ (e .before .read-design .ensures) (e .if2 .left) _ (c .before .before .read-on .ensures) (c .before .if3 .taken)
 
 read-at-requires : tie.Need-read-at-requires
 read-at-requires c κs = search needs
@@ -29,10 +31,18 @@ led-end-requires : tie.Need-led-end-requires
 led-end-requires c κs = search needs
 
 returns-4 : tie.Need-returns-4
-returns-4 c = is-voices _ (c .before .before .before .before .before .before .before .before .if1 .left) _ (c .before .before .before .before .before .before .before .read-design .ensures) (c .before .before .before .before .before .before .if2 .left) _ (c .before .before .before .before .before .read-on .ensures) (c .before .before .before .before .if3 .left) _ _ (c .before .before .before .read-at .ensures) (c .before .led-end .ensures) (c .if4 .taken)
+returns-4 c =
+    let f = c .before .before .before .before in
+    let e = f .before .before in
+    is-voices _ (e .before .before .if1 .left) _ (e .before .read-design .ensures) (e .if2 .left) _ (f .before .read-on .ensures) (f .if3 .left) _ _
+    (c .before .before .before .read-at .ensures) (c .before .led-end .ensures) (c .if4 .taken)
 
 returns-5 : tie.Need-returns-5
-returns-5 c = is-none _ (c .before .before .before .before .before .before .before .before .if1 .left) _ (c .before .before .before .before .before .before .before .read-design .ensures) (c .before .before .before .before .before .before .if2 .left) _ (c .before .before .before .before .before .read-on .ensures) (c .before .before .before .before .if3 .left) _ _ (c .before .before .before .read-at .ensures) (c .before .led-end .ensures) (c .if4 .left)
+returns-5 c =
+    let f = c .before .before .before .before in
+    let e = f .before .before in
+    is-none _ (e .before .before .if1 .left) _ (e .before .read-design .ensures) (e .if2 .left) _ (f .before .read-on .ensures) (f .if3 .left) _ _
+    (c .before .before .before .read-at .ensures) (c .before .led-end .ensures) (c .if4 .left)
 
 pub read-spec : {M : Type 1} → statement M
 read-spec =

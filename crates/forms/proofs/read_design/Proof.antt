@@ -44,9 +44,10 @@ read-sound-requires c κs = search needs
 
 returns : tie.Need-returns
 returns c =
-    design-line _ _ _ _ _ (c .before .before .before .before .before .before .before .before .before .before .before .read-at .ensures)
-    (andThen _ _ _ _ _ _ _ (c .before .before .before .before .before .before .before .before .before .led-decimal .ensures)
-    (andThen _ _ _ _ _ _ _ (c .before .before .before .before .before .before .before .led-decimal2 .ensures)
+    let second = c .before .before .before .before .before .before .before in
+    design-line _ _ _ _ _ (second .before .before .before .before .read-at .ensures)
+    (andThen _ _ _ _ _ _ _ (second .before .before .led-decimal .ensures)
+    (andThen _ _ _ _ _ _ _ (second .led-decimal2 .ensures)
     (andThen _ _ _ _ _ _ _ (c .before .before .before .before .before .led-mode .ensures)
     (andThen _ _ _ _ _ _ _ (c .before .before .before .led-decimal3 .ensures)
     (andThen _ _ _ _ _ _ _ (c .before .led-word .ensures)

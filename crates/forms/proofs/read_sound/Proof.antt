@@ -78,14 +78,17 @@ led-end-requires c κs = search needs
 
 returns : tie.Need-returns
 returns c =
-    andThen _ _ _ _ _ _ _ (c .before .before .before .before .before .before .before .before .before .before .before .before .before .before .before .before .before .before .before .before .before .before .led-word .ensures)
-    (andThen _ _ _ _ _ _ _ (c .before .before .before .before .before .before .before .before .before .before .before .before .before .before .before .before .before .before .before .before .led-word2 .ensures)
-    (andThen _ _ _ _ _ _ _ (c .before .before .before .before .before .before .before .before .before .before .before .before .before .before .before .before .before .before .led-word3 .ensures)
-    (andThen _ _ _ _ _ _ _ (c .before .before .before .before .before .before .before .before .before .before .before .before .before .before .before .before .led-word4 .ensures)
-    (andThen _ _ _ _ _ _ _ (c .before .before .before .before .before .before .before .before .before .before .before .before .before .before .led-word5 .ensures)
-    (andThen _ _ _ _ _ _ _ (c .before .before .before .before .before .before .before .before .before .before .before .before .led-word6 .ensures)
-    (andThen _ _ _ _ _ _ _ (c .before .before .before .before .before .before .before .before .before .before .led-word7 .ensures)
-    (andThen _ _ _ _ _ _ _ (c .before .before .before .before .before .before .before .before .led-word8 .ensures)
+    let eighth = c .before .before .before .before .before .before .before .before in
+    let fifth = eighth .before .before .before .before .before .before in
+    let second = fifth .before .before .before .before .before .before in
+    andThen _ _ _ _ _ _ _ (second .before .before .led-word .ensures)
+    (andThen _ _ _ _ _ _ _ (second .led-word2 .ensures)
+    (andThen _ _ _ _ _ _ _ (fifth .before .before .before .before .led-word3 .ensures)
+    (andThen _ _ _ _ _ _ _ (fifth .before .before .led-word4 .ensures)
+    (andThen _ _ _ _ _ _ _ (fifth .led-word5 .ensures)
+    (andThen _ _ _ _ _ _ _ (eighth .before .before .before .before .led-word6 .ensures)
+    (andThen _ _ _ _ _ _ _ (eighth .before .before .led-word7 .ensures)
+    (andThen _ _ _ _ _ _ _ (eighth .led-word8 .ensures)
     (andThen _ _ _ _ _ _ _ (c .before .before .before .before .before .before .led-word9 .ensures)
     (andThen _ _ _ _ _ _ _ (c .before .before .before .before .led-word10 .ensures)
     (lastly _ _ _ _ _ (c .before .before .led-word11 .ensures) (c .led-end .ensures) (λ w rest. tt))

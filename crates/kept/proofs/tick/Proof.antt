@@ -90,10 +90,12 @@ module _ {M : Type 1} (𝓤 : URA M) (H : Heap 𝓤) (A : Atoms 𝓤) (W : Given
   abbrev Post : Val → SProp 𝓤
   Post = walkOf 𝓤 H A f.ended stayed (f.clauses 𝓤 H A at-mem run) .post (((κ, tt), (q, tt), tt, arg, at), tt)
 
-  exits : (e : EnvGen) → e ≡ ticked h → fits binary32 (e .level) ≡ true → ent 𝓤 (sep 𝓤 (A .obs γ (Env .coded .code e)) (sep 𝓤 (A .bor κ (Body (mem Env) b o γ)) (A .lft κ q))) (Post (vfloat binary32 (e .level)))
+  exits : (e : EnvGen) → e ≡ ticked h → fits binary32 (e .level) ≡ true
+      → ent 𝓤 (sep 𝓤 (A .obs γ (Env .coded .code e)) (sep 𝓤 (A .bor κ (Body (mem Env) b o γ)) (A .lft κ q))) (Post (vfloat binary32 (e .level)))
   exits e p ok =
       qed W (‵ (fobs γ (Env .coded .code e)) ∷ ‵ (fbor κ (Body (mem Env) b o γ)) ∷ ‵ (flft κ q) ∷ []) ∵
-      suffices ! _ (ends-at 𝓤 H A f.ended stayed (f.clauses 𝓤 H A at-mem run) W (((κ, tt), (q, tt), tt, arg, at), tt) (vfloat binary32 (e .level)) (e .level) (e, tt) (tt, tt)) $ says ! (p, sample h e p) $
+      suffices ! _ (ends-at 𝓤 H A f.ended stayed (f.clauses 𝓤 H A at-mem run) W (((κ, tt), (q, tt), tt, arg, at), tt) (vfloat binary32 (e .level)) (e .level) (e, tt) (tt, tt)) $
+      says ! (p, sample h e p) $
       nothing ! $ move ! (3 ∷ 0 ∷ []) $ join ! $ frame ! $ feqI ! (List Val) (vptr b o ∷ []) (vptr b o ∷ []) refl $ fjoin3 ! $ nothing ! $ move ! (1 ∷ 0 ∷ []) $ fjoin ! $ frame ! $
       owned ! f32 (Is f32) (float-makes 𝓤 H A W binary32) (e .level) _ (refl, ok) $ done !
 
@@ -120,14 +122,17 @@ module _ {M : Type 1} (𝓤 : URA M) (H : Heap 𝓤) (A : Atoms 𝓤) (W : Given
         -- _2 = EnvGen::tick(_3)
         move ! (1 ∷ []) $ use1 W (raw (Tick 𝓤 H A at-mem run .pre called)) goes-in $
         calls-at ! fm (Tick 𝓤 H A at-mem run) known called (and-then ! (load ! (from ! (stop !)) (look ! 5 refl)) (no-more !)) (λ v.
-        use1 W (later (some (λ (e : EnvGen). (‵ ftrue ⊛ ‵ (Env .own e (v ∷ []))) ⊛ raw (ensured 𝓤 H A tick.ended (tick.clauses 𝓤 H A at-mem run) tt (h, tt) tt e)))) (id⊢ 𝓤 _) $ await ! tt $ pick ! (λ e.
+        use1 W
+        (later (some (λ (e : EnvGen). (‵ ftrue ⊛ ‵ (Env .own e (v ∷ []))) ⊛ raw (ensured 𝓤 H A tick.ended (tick.clauses 𝓤 H A at-mem run) tt (h, tt) tt e))))
+        (id⊢ 𝓤 _) $ await ! tt $ pick ! (λ e.
         split ! $ move ! (1 ∷ []) $ use1 W (raw (fact 𝓤 (e ≡ ticked h))) (ticked-of 𝓤 H A at-mem run h e) $ heard ! (e ≡ ticked h) (λ p. split ! $ drop ! $
         peeks ! Env (Is Env) (shows 𝓤 H A Env) e (v ∷ []) (λ is.
         -- [what the next record owns; the record's cell; the open borrow; obs; auth; _3; _; _2; _; _1; _; _0; _]
         land ! (from ! (stop !)) (init ! 7 refl (LL.lawful env-type env-laws 𝓤 H A W .typed e _ is .0)) $
         rewrite ! 7 (λ (u : Val). ‵ (fat fullShare env-mir l₂ 0 u)) (ap only (LL.tells env-type env-laws e (v ∷ []) is)) refl $
         -- *_1 = _2
-        assigns ! (of-opd ! (load ! (from ! (stop !)) (look ! 7 refl))) (from ! (hop ! (look ! 9 refl) (stop !))) (store ! 1 refl (LL.lawful env-type env-laws 𝓤 H A W .typed e _ (at-machine e v is) .0)) $
+        assigns ! (of-opd ! (load ! (from ! (stop !)) (look ! 7 refl))) (from ! (hop ! (look ! 9 refl) (stop !)))
+        (store ! 1 refl (LL.lawful env-type env-laws 𝓤 H A W .typed e _ (at-machine e v is) .0)) $
         -- _0 = _2.level
         assigns ! (of-opd ! (load ! (from ! (fld ! refl (stop !))) (look-in ! 7 (sub ! 6 refl (whole !))))) (from ! (stop !)) (init ! 11 refl (tt, passes _ (level-fits e v is))) $
         -- the borrow is closed at the next record, and the locals are freed

@@ -13,7 +13,9 @@ event-requires : tie.Need-event-requires
 event-requires c κs = search needs
 
 returns : tie.Need-returns
-returns c = ap Event (c .event .ensures) ∙ sym (first-last (c .before .before .before .args .status) (c .before .before .before .args .byte) (sym (c .before .before .within .ensures) ∙ c .before .if1 .taken))
+returns c =
+    let s = c .before .before .before .args in
+    ap Event (c .event .ensures) ∙ sym (first-last (s .status) (s .byte) (sym (c .before .before .within .ensures) ∙ c .before .if1 .taken))
 
 returns-2 : tie.Need-returns-2
 returns-2 c = sym (first-kept (c .before .before .args .status) (c .before .before .args .byte) (sym (c .before .within .ensures) ∙ c .if1 .left))

@@ -28,10 +28,17 @@ returns : tie.Need-returns Inv-loop μ-loop
 returns c =
     let stream = c .before .before .before .args .stream .now in
     let cursor = c .before .before .before .args .cursor in
-    c .refuse .ensures ∙ sym (⊎-elim (λ w. stepped-beyond stream cursor (w .taken)) (λ w. stepped-unrunnable stream cursor (w .0 .left) (sym (w .1 .ensures) ∙ not-true _ (w .2 .taken))) (c .before .if1 .came))
+    c .refuse .ensures
+    ∙ sym (⊎-elim (λ w. stepped-beyond stream cursor (w .taken))
+    (λ w. stepped-unrunnable stream cursor (w .0 .left) (sym (w .1 .ensures) ∙ not-true _ (w .2 .taken)))
+    (c .before .if1 .came))
 
 loop-holds : tie.Need-loop-holds Inv-loop μ-loop
-loop-holds c = (c .before .before .if1 .left, sym (stepped-reads (c .before .before .before .before .args .stream .now) (c .before .before .before .before .args .cursor) (c .before .before .if1 .left) (sym (c .before .may-run .ensures) ∙ not-false _ (c .if2 .left))))
+loop-holds c =
+    let s = c .before .before .before .before .args in
+    let within = c .before .before .if1 .left in
+    let runs = sym (c .before .may-run .ensures) ∙ not-false _ (c .if2 .left) in
+    (within, sym (stepped-reads (s .stream .now) (s .cursor) within runs))
 
 shared-slice-read-feed : tie.Need-shared-slice-read-feed Inv-loop μ-loop
 shared-slice-read-feed c = search needs
@@ -49,19 +56,33 @@ loop-less : tie.Need-loop-less Inv-loop μ-loop
 loop-less c = omega arith
 
 loop-again : tie.Need-loop-again Inv-loop μ-loop
-loop-again c = (omega arith, sym (reading-more (c .before .before .before .before .before .before .before .before .before .before .before .args .stream .now) (c .before .before .before .before .before .before .before .before .before .before .before .args .cursor) (c .before .before .before .before .before .before .loop .scan) (c .before .before .before .before .before .before .loop .place) _ (c .before .before .before .before .before .loop-test .taken) (sym (c .before .before .before .feed .ensures) ∙ c .before .fed .given .1)) ∙ c .before .before .before .before .before .before .loop .inv .1)
+loop-again c =
+    let b = c .before .before .before .before .before .before in
+    let s = b .before .before .before .before .before .args in
+    let fed = sym (c .before .before .before .feed .ensures) ∙ c .before .fed .given .1 in
+    let more = reading-more (s .stream .now) (s .cursor) (b .loop .scan) (b .loop .place) _ (c .before .before .before .before .before .loop-test .taken) fed in
+    (omega arith, sym more ∙ b .loop .inv .1)
 
 enum-known-fed-2 : tie.Need-enum-known-fed-2 Inv-loop μ-loop
 enum-known-fed-2 c = search needs
 
 returns-2 : tie.Need-returns-2 Inv-loop μ-loop
-returns-2 c = sym (reading-event (c .before .before .before .before .before .before .before .before .before .before .before .args .stream .now) (c .before .before .before .before .before .before .before .before .before .before .before .args .cursor) (c .before .before .before .before .before .before .loop .scan) (c .before .before .before .before .before .before .loop .place) _ (c .before .before .before .before .before .loop-test .taken) (sym (c .before .before .before .feed .ensures) ∙ c .before .fed2 .given .1)) ∙ c .before .before .before .before .before .before .loop .inv .1
+returns-2 c =
+    let b = c .before .before .before .before .before .before in
+    let s = b .before .before .before .before .before .args in
+    let fed = sym (c .before .before .before .feed .ensures) ∙ c .before .fed2 .given .1 in
+    sym (reading-event (s .stream .now) (s .cursor) (b .loop .scan) (b .loop .place) _ (c .before .before .before .before .before .loop-test .taken) fed) ∙ b .loop .inv .1
 
 finish-requires : tie.Need-finish-requires Inv-loop μ-loop
 finish-requires c κs = search needs
 
 returns-3 : tie.Need-returns-3 Inv-loop μ-loop
-returns-3 c = c .finish .ensures ∙ sym (reading-end (c .before .before .before .before .before .before .before .args .stream .now) (c .before .before .before .before .before .before .before .args .cursor) (c .before .before .loop .scan) (c .before .before .loop .place) (c .before .loop-test .left)) ∙ c .before .before .loop .inv .1
+returns-3 c =
+    let b = c .before .before in
+    let s = b .before .before .before .before .before .args in
+    c .finish .ensures
+    ∙ sym (reading-end (s .stream .now) (s .cursor) (b .loop .scan) (b .loop .place) (c .before .loop-test .left))
+    ∙ b .loop .inv .1
 
 pub step-spec : {M : Type 1} → statement M
 step-spec =

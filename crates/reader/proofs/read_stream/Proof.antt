@@ -99,7 +99,8 @@ module _ {M : Type 1} (𝓤 : URA M) (H : Heap 𝓤) (A : Atoms 𝓤) (W : Given
   goes-new =
       qed W ((‵ (flft κ q) ⊛ ‵ ftrue) ∷ ‵ (owns (ShrSlice (named 0) κ u8 ∷ []) (s, tt) (v ∷ [], tt)) ∷ []) ∵
       move ! (1 ∷ []) $ fsplit ! $ use1 W (‵ Own ⊛ ‵ Own) (shr-slice-copy 𝓤 H A W (named 0) κ u8 .twice s (v ∷ [])) $ split ! $
-      move ! (0 ∷ 2 ∷ []) $ fjoin ! $ move ! (2 ∷ 0 ∷ []) $ use2 W (raw (New 𝓤 H A mem run .pre to-new)) (qed W ((‵ (flft κ q) ⊛ ‵ ftrue) ∷ ‵ (owns (ShrSlice (named 0) κ u8 ∷ []) (s, tt) (v ∷ [], tt)) ∷ []) ∵ join ! $ frame ! $ done !) $ frame ! $ done !
+      move ! (0 ∷ 2 ∷ []) $ fjoin ! $ move ! (2 ∷ 0 ∷ []) $ use2 W (raw (New 𝓤 H A mem run .pre to-new))
+      (qed W ((‵ (flft κ q) ⊛ ‵ ftrue) ∷ ‵ (owns (ShrSlice (named 0) κ u8 ∷ []) (s, tt) (v ∷ [], tt)) ∷ []) ∵ join ! $ frame ! $ done !) $ frame ! $ done !
 
   new-said : (r : Reader) → ent 𝓤 (ensured 𝓤 H A new.ended (new.clauses 𝓤 H A mem run) κs (s, tt) tt r) (fact 𝓤 (r ≡ atStart s))
   new-said r = exE 𝓤 _ (λ ws. snd∗ 𝓤 (sem 𝓤 H A (lasts new.ended κs (s, tt) ws)) (fact 𝓤 (r ≡ atStart s)))
@@ -127,14 +128,18 @@ module _ {M : Type 1} (𝓤 : URA M) (H : Heap 𝓤) (A : Atoms 𝓤) (W : Given
         alloc1 ! (λ l₀. alloc1 ! (λ l₁. alloc1 ! (λ l₂. alloc0 ! $ params1 ! $ pass1 ! (init ! 2 refl (shr-slice-lawful 𝓤 H A W (named 0) κ u8 .typed s (v ∷ []) p .0)) $ pass0 ! $
         move ! (6 ∷ []) $ use1 W (raw (New 𝓤 H A mem run .pre to-new) ⊛ ‵ Own) goes-new $ split ! $
         calls-at ! fm (New 𝓤 H A mem run) known-new to-new (and-then ! (load ! (from ! (stop !)) (look ! 4 refl)) (no-more !)) (λ u.
-        use1 W (later (some (λ (r : Reader). ((‵ (flft κ q) ⊛ ‵ ftrue) ⊛ ‵ (B κs .own r (u ∷ []))) ⊛ raw (ensured 𝓤 H A new.ended (new.clauses 𝓤 H A mem run) κs (s, tt) tt r)))) (id⊢ 𝓤 _) $ await ! tt $ pick ! (λ r.
+        use1 W
+        (later (some (λ (r : Reader). ((‵ (flft κ q) ⊛ ‵ ftrue) ⊛ ‵ (B κs .own r (u ∷ []))) ⊛ raw (ensured 𝓤 H A new.ended (new.clauses 𝓤 H A mem run) κs (s, tt) tt r))))
+        (id⊢ 𝓤 _) $ await ! tt $ pick ! (λ r.
         split ! $ move ! (1 ∷ []) $ use1 W (raw (fact 𝓤 (r ≡ atStart s))) (new-said r) $ heard ! (r ≡ atStart s) (λ e. split ! $ move ! (1 ∷ []) $
         -- [the reader; the token; the stream; room for _2; …; _1; …; room for _0; …]
         peeks ! (B κs) (Is (B κs)) (shows 𝓤 H A (B κs)) r (u ∷ []) (λ is.
         land ! (from ! (stop !)) (init ! 3 refl (LL.lawful (T.the-type αᵉ) (T′.the-laws αᵉ) 𝓤 H A W .typed r _ is .0)) $
         use2 W (raw (Count 𝓤 H A mem run .pre (to-tally r u))) (goes-tally r u) $
         calls-at ! fm (Count 𝓤 H A mem run) known-tally (to-tally r u) (and-then ! (load ! (from ! (stop !)) (look ! 2 refl)) (no-more !)) (λ u′.
-        use1 W (later (some (λ (t : Tally). ((‵ (flft κ q) ⊛ ‵ ftrue) ⊛ ‵ (O.the-row .own t (u′ ∷ []))) ⊛ raw (ensured 𝓤 H A tally.ended (tally.clauses 𝓤 H A mem run) κs (r, tt) tt t)))) (id⊢ 𝓤 _) $ await ! tt $ pick ! (λ t.
+        use1 W
+        (later (some (λ (t : Tally). ((‵ (flft κ q) ⊛ ‵ ftrue) ⊛ ‵ (O.the-row .own t (u′ ∷ []))) ⊛ raw (ensured 𝓤 H A tally.ended (tally.clauses 𝓤 H A mem run) κs (r, tt) tt t))))
+        (id⊢ 𝓤 _) $ await ! tt $ pick ! (λ t.
         split ! $ move ! (1 ∷ []) $ use1 W (raw (fact 𝓤 (t ≡ counted r))) (tally-said r t) $ heard ! (t ≡ counted r) (λ e′. split ! $ move ! (1 ∷ []) $
         -- [the tally; the token; the stream; _2; …; _1; …; room for _0; …]
         peeks ! O.the-row (Is O.the-row) (shows 𝓤 H A O.the-row) t (u′ ∷ []) (λ is′.
@@ -145,13 +150,17 @@ module _ {M : Type 1} (𝓤 : URA M) (H : Heap 𝓤) (A : Atoms 𝓤) (W : Given
 module _ {M : Type 1} (𝓤 : URA M) (H : Heap 𝓤) (A : Atoms 𝓤) (W : Given 𝓤 H A) (mem : Memory → SProp 𝓤) (run : Routine → Fun 𝓤) where
   whole-walks : (C : Calls 𝓤 H) (Λ : Loops 𝓤 H) → FmC 𝓤 H (W .laws) C → Triple 𝓤 (C #reader·new) (New 𝓤 H A mem run) → Triple 𝓤 (C #reader·tally) (Count 𝓤 H A mem run)
       → Walks 𝓤 H A whole.ended stayed (WpFn 𝓤 H C Λ code.function) (whole.clauses 𝓤 H A mem run)
-  whole-walks C Λ fm known-new known-tally = walked 𝓤 H A whole.ended stayed (whole.clauses 𝓤 H A mem run) (WpFn 𝓤 H C Λ code.function) (λ κs. (slice-vals, tt)) (λ κs. (shr-slice-tells (named 0) (κs .0) u8, tt))
+  whole-walks C Λ fm known-new known-tally =
+      walked 𝓤 H A whole.ended stayed (whole.clauses 𝓤 H A mem run) (WpFn 𝓤 H C Λ code.function)
+      (λ κs. (slice-vals, tt)) (λ κs. (shr-slice-tells (named 0) (κs .0) u8, tt))
       (λ κs qs bounds a g are. via 𝓤 _ (fst∗ 𝓤 _ (emp 𝓤)) (walk 𝓤 H A W mem run (κs .0) (qs .0) (a .0) C Λ fm known-new known-tally (are .0)))
 
 whole-meets : {M : Type 1} (𝓤 : URA M) (H : Heap 𝓤) (A : Atoms 𝓤) (W : Given 𝓤 H A) (mem : Memory → SProp 𝓤) (run : Routine → Fun 𝓤) (𝓣 : Tables 𝓤 H)
     → Triple 𝓤 (𝓣 .C #reader·new) (New 𝓤 H A mem run) → Triple 𝓤 (𝓣 .C #reader·tally) (Count 𝓤 H A mem run)
     → Meets 𝓤 H A whole.signature (WpFn 𝓤 H (𝓣 .C) (𝓣 .Λ) code.function) (whole.spec 𝓤 H A mem run)
-whole-meets 𝓤 H A W mem run 𝓣 known-new known-tally = walk-meets 𝓤 H A whole.ended stayed W (goes-none-slice 𝓤 H A W 1 (0 ∷ []) tt (plain (λ _. u8)) yes, tt) (whole.clauses 𝓤 H A mem run) (WpFn 𝓤 H (𝓣 .C) (𝓣 .Λ) code.function) (WpFn-mono 𝓤 H (W .laws) 𝓣 code.function)
+whole-meets 𝓤 H A W mem run 𝓣 known-new known-tally =
+    walk-meets 𝓤 H A whole.ended stayed W (goes-none-slice 𝓤 H A W 1 (0 ∷ []) tt (plain (λ _. u8)) yes, tt)
+    (whole.clauses 𝓤 H A mem run) (WpFn 𝓤 H (𝓣 .C) (𝓣 .Λ) code.function) (WpFn-mono 𝓤 H (W .laws) 𝓣 code.function)
     (whole-walks 𝓤 H A W mem run (𝓣 .C) (𝓣 .Λ) (fmOf 𝓤 H (W .laws) 𝓣) known-new known-tally)
 
 pub read-stream-spec : {M : Type 1} → stated.statement M

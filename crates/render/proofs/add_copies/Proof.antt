@@ -13,7 +13,13 @@ use Rattle.render.proofs.add_copies.Statement.{statement}
 use Rattle.render.proofs.add_copies.Tie as tie
 
 abbrev Inv-loop : tie.InvT-loop
-Inv-loop samples p n a env m left₀ right₀ v k q₀ j₀ left right q j = (j ≤ k) × (q ≡ p + n * j) × (length left ≡ length left₀) × (length right ≡ length right₀) × Copied onLeft n a m samples (take m env) (mixing (drop p samples) left₀) (v .copies) q j left × Copied onRight n a m samples (take m env) (mixing (drop p samples) right₀) (v .copies) q j right
+Inv-loop samples p n a env m left₀ right₀ v k q₀ j₀ left right q j =
+    (j ≤ k)
+    × (q ≡ p + n * j)
+    × (length left ≡ length left₀)
+    × (length right ≡ length right₀)
+    × Copied onLeft n a m samples (take m env) (mixing (drop p samples) left₀) (v .copies) q j left
+    × Copied onRight n a m samples (take m env) (mixing (drop p samples) right₀) (v .copies) q j right
 
 abbrev μ-loop : tie.MeasureT-loop
 μ-loop samples p n a env m left₀ right₀ v k q₀ j₀ left right q j = k - j
@@ -24,7 +30,9 @@ all-copies v j k e h = rw (e, h, length-take) (take-min (v .«copy_count») _ (v
 
 -- the samples of all copies, of the four copies and of the one copy of a turn
 module _ (b : tie.At-loop Inv-loop μ-loop) where
-  all : b .before .before .before .before .before .args .p + b .before .before .before .before .before .args .n * b .before .copies-shown .result ≤ length (b .before .before .before .before .before .args .samples .now)
+  all : b .before .before .before .before .before .args .p
+      + b .before .before .before .before .before .args .n * b .before .copies-shown .result
+      ≤ length (b .before .before .before .before .before .args .samples .now)
   all = rw (b .before .copies-shown .ensures .1) (b .before .before .before .before .before .pre .0)
 
 module _ (t : tie.Then1 Inv-loop μ-loop) where
@@ -36,13 +44,17 @@ module _ (t : tie.Then1 Inv-loop μ-loop) where
       ≤ length (t .before .before .before .before .before .before .before .args .samples .now)
   four =
       let b = t .before .before in
-      omega (arith, all b, four-fit (b .before .before .before .before .before .args .n) (b .loop .j) (b .before .copies-shown .result) (t .if1 .taken) (t .before .loop-test .taken), b .loop .inv .1)
+      let fit = four-fit (b .before .before .before .before .before .args .n) (b .loop .j) (b .before .copies-shown .result) (t .if1 .taken) (t .before .loop-test .taken) in
+      omega (arith, all b, fit, b .loop .inv .1)
 
 module _ (t : tie.Else1 Inv-loop μ-loop) where
-  one : t .before .before .loop .q + t .before .before .before .before .before .before .before .args .n ≤ length (t .before .before .before .before .before .before .before .args .samples .now)
+  one : t .before .before .loop .q
+      + t .before .before .before .before .before .before .before .args .n
+      ≤ length (t .before .before .before .before .before .before .before .args .samples .now)
   one =
       let b = t .before .before in
-      omega (arith, all b, row-fits (b .before .before .before .before .before .args .n) (b .loop .j) (b .before .copies-shown .result) (t .before .loop-test .taken), b .loop .inv .1)
+      let fit = row-fits (b .before .before .before .before .before .args .n) (b .loop .j) (b .before .copies-shown .result) (t .before .loop-test .taken) in
+      omega (arith, all b, fit, b .loop .inv .1)
 
 copies-shown-requires : tie.Need-copies-shown-requires Inv-loop μ-loop
 copies-shown-requires c κs = search needs
@@ -87,22 +99,40 @@ element-copy-out-ud : tie.Need-element-copy-out-ud Inv-loop μ-loop
 element-copy-out-ud c = search needs
 
 add-add-four-copies : tie.Need-add-add-four-copies Inv-loop μ-loop
-add-add-four-copies c = let t = c .before .before .before .before in let s = t .before .before .before .before .before .before .before in omega (arith, four t, s .good .1 .0 .0, s .pre)
+add-add-four-copies c =
+    let t = c .before .before .before .before in
+    let s = t .before .before .before .before .before .before .before in
+    omega (arith, four t, s .good .1 .0 .0, s .pre)
 
 add-four-copies-requires : tie.Need-add-four-copies-requires Inv-loop μ-loop
-add-four-copies-requires c κs = let t = c .before .before .before .before .before .before in let s = t .before .before .before .before .before .before .before in omega (arith, four t, s .good .1 .0 .0, s .pre)
+add-four-copies-requires c κs =
+    let t = c .before .before .before .before .before .before in
+    let s = t .before .before .before .before .before .before .before in
+    omega (arith, four t, s .good .1 .0 .0, s .pre)
 
 add-q : tie.Need-add-q Inv-loop μ-loop
-add-q c = let t = c .before .before .before .before .before .before .before .before .before .before .before in let s = t .before .before .before .before .before .before .before in omega (arith, four t, s .good .1 .0 .0, s .pre)
+add-q c =
+    let t = c .before .before .before .before .before .before .before .before .before .before .before in
+    let s = t .before .before .before .before .before .before .before in
+    omega (arith, four t, s .good .1 .0 .0, s .pre)
 
 add-q-2 : tie.Need-add-q-2 Inv-loop μ-loop
-add-q-2 c = let t = c .before .before .before .before .before .before .before .before .before .before .before in let s = t .before .before .before .before .before .before .before in omega (arith, four t, s .good .1 .0 .0, s .pre)
+add-q-2 c =
+    let t = c .before .before .before .before .before .before .before .before .before .before .before in
+    let s = t .before .before .before .before .before .before .before in
+    omega (arith, four t, s .good .1 .0 .0, s .pre)
 
 add-q-3 : tie.Need-add-q-3 Inv-loop μ-loop
-add-q-3 c = let t = c .before .before .before .before .before .before .before .before .before .before .before in let s = t .before .before .before .before .before .before .before in omega (arith, four t, s .good .1 .0 .0, s .pre)
+add-q-3 c =
+    let t = c .before .before .before .before .before .before .before .before .before .before .before in
+    let s = t .before .before .before .before .before .before .before in
+    omega (arith, four t, s .good .1 .0 .0, s .pre)
 
 add-q-4 : tie.Need-add-q-4 Inv-loop μ-loop
-add-q-4 c = let t = c .before .before .before .before .before .before .before .before .before .before .before in let s = t .before .before .before .before .before .before .before in omega (arith, four t, s .good .1 .0 .0, s .pre)
+add-q-4 c =
+    let t = c .before .before .before .before .before .before .before .before .before .before .before in
+    let s = t .before .before .before .before .before .before .before in
+    omega (arith, four t, s .good .1 .0 .0, s .pre)
 
 add-j : tie.Need-add-j Inv-loop μ-loop
 add-j c = omega arith
@@ -126,8 +156,10 @@ loop-again c =
       omega (arith, four-after (x .n) (b .loop .j), i .1),
       omega (arith, call .kept, i .2),
       omega (arith, call .kept, i .3),
-      copy-four onLeft (x .n) (x .a) (x .m) (x .samples .now) es (mixing (drop (x .p) (x .samples .now)) (x .left .now)) (x .t1 .copies) (b .loop .q) (b .loop .j) (b .loop .left) _ (omega (arith, long, k)) (e .onLeft) (i .4),
-      copy-four onRight (x .n) (x .a) (x .m) (x .samples .now) es (mixing (drop (x .p) (x .samples .now)) (x .right .now)) (x .t1 .copies) (b .loop .q) (b .loop .j) (b .loop .right) _ (omega (arith, long, k)) (e .onRight) (i .5),
+      copy-four onLeft (x .n) (x .a) (x .m) (x .samples .now) es (mixing (drop (x .p) (x .samples .now)) (x .left .now))
+          (x .t1 .copies) (b .loop .q) (b .loop .j) (b .loop .left) _ (omega (arith, long, k)) (e .onLeft) (i .4),
+      copy-four onRight (x .n) (x .a) (x .m) (x .samples .now) es (mixing (drop (x .p) (x .samples .now)) (x .right .now))
+          (x .t1 .copies) (b .loop .q) (b .loop .j) (b .loop .right) _ (omega (arith, long, k)) (e .onRight) (i .5),
     )
 
 mul-u : tie.Need-mul-u Inv-loop μ-loop
@@ -137,13 +169,22 @@ element-copy-out-u : tie.Need-element-copy-out-u Inv-loop μ-loop
 element-copy-out-u c = search needs
 
 add-add-one : tie.Need-add-add-one Inv-loop μ-loop
-add-add-one c = let t = c .before in let s = t .before .before .before .before .before .before .before in omega (arith, one t, s .good .1 .0 .0, s .pre)
+add-add-one c =
+    let t = c .before in
+    let s = t .before .before .before .before .before .before .before in
+    omega (arith, one t, s .good .1 .0 .0, s .pre)
 
 add-one-requires : tie.Need-add-one-requires Inv-loop μ-loop
-add-one-requires c κs = let t = c .before .before .before in let s = t .before .before .before .before .before .before .before in omega (arith, one t, s .good .1 .0 .0, s .pre)
+add-one-requires c κs =
+    let t = c .before .before .before in
+    let s = t .before .before .before .before .before .before .before in
+    omega (arith, one t, s .good .1 .0 .0, s .pre)
 
 add-q-5 : tie.Need-add-q-5 Inv-loop μ-loop
-add-q-5 c = let t = c .before .before .before .before .before .before .before .before in let s = t .before .before .before .before .before .before .before in omega (arith, one t, s .good .1 .0 .0, s .pre)
+add-q-5 c =
+    let t = c .before .before .before .before .before .before .before .before in
+    let s = t .before .before .before .before .before .before .before in
+    omega (arith, one t, s .good .1 .0 .0, s .pre)
 
 add-j-2 : tie.Need-add-j-2 Inv-loop μ-loop
 add-j-2 c = omega arith
@@ -167,8 +208,10 @@ loop-again-2 c =
       omega (arith, row-after (x .n) (b .loop .j), i .1),
       omega (arith, call .kept, i .2),
       omega (arith, call .kept, i .3),
-      copy-one onLeft (x .n) (x .a) (x .m) (x .samples .now) es (mixing (drop (x .p) (x .samples .now)) (x .left .now)) (x .t1 .copies) (b .loop .q) (b .loop .j) (b .loop .left) _ (omega (arith, long, k)) (e .onLeft) (i .4),
-      copy-one onRight (x .n) (x .a) (x .m) (x .samples .now) es (mixing (drop (x .p) (x .samples .now)) (x .right .now)) (x .t1 .copies) (b .loop .q) (b .loop .j) (b .loop .right) _ (omega (arith, long, k)) (e .onRight) (i .5),
+      copy-one onLeft (x .n) (x .a) (x .m) (x .samples .now) es (mixing (drop (x .p) (x .samples .now)) (x .left .now))
+          (x .t1 .copies) (b .loop .q) (b .loop .j) (b .loop .left) _ (omega (arith, long, k)) (e .onLeft) (i .4),
+      copy-one onRight (x .n) (x .a) (x .m) (x .samples .now) es (mixing (drop (x .p) (x .samples .now)) (x .right .now))
+          (x .t1 .copies) (b .loop .q) (b .loop .j) (b .loop .right) _ (omega (arith, long, k)) (e .onRight) (i .5),
     )
 
 same-length : tie.Need-same-length Inv-loop μ-loop
@@ -183,7 +226,8 @@ returns c =
     let s = b .before .before .before .before .before in
     let v = s .args .t1 in
     let i = b .loop .inv in
-    let all : take (b .loop .j) (v .copies) ≡ shown v .copies = all-copies v (b .loop .j) (b .before .copies-shown .result) (omega arith) (b .before .copies-shown .ensures .1) in
+    let k = b .before .copies-shown in
+    let all : take (b .loop .j) (v .copies) ≡ shown v .copies = all-copies v (b .loop .j) (k .result) (omega arith) (k .ensures .1) in
     record {
       onLeft = rw all at (ap (λ (z : Mixing). z .sums) (i .4));
       onRight = rw all at (ap (λ (z : Mixing). z .sums) (i .5));

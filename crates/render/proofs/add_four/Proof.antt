@@ -9,7 +9,11 @@ use Rattle.render.proofs.add_four.Statement.{statement}
 use Rattle.render.proofs.add_four.Tie as tie
 
 abbrev Inv-loop : tie.InvT-loop
-Inv-loop samples at n env m la lb lc ld ra rb rc rd left₀ right₀ b c d f₀ left right f = (f ≤ m) × (length left ≡ length left₀) × (length right ≡ length right₀) × BothSides (λ g. addFour g at n f samples (take m env)) (gains la lb lc ld) (gains ra rb rc rd) left₀ right₀ left right
+Inv-loop samples at n env m la lb lc ld ra rb rc rd left₀ right₀ b c d f₀ left right f =
+    (f ≤ m)
+    × (length left ≡ length left₀)
+    × (length right ≡ length right₀)
+    × BothSides (λ g. addFour g at n f samples (take m env)) (gains la lb lc ld) (gains ra rb rc rd) left₀ right₀ left right
 
 abbrev μ-loop : tie.MeasureT-loop
 μ-loop samples at n env m la lb lc ld ra rb rc rd left₀ right₀ b c d f₀ left right f = m - f
@@ -108,8 +112,10 @@ loop-again c =
       simp length-set (i .1),
       simp length-set (i .2),
       record {
-        onLeft = four-more (gains (s .la) (s .lb) (s .lc) (s .ld)) (s .at) (s .n) (s .m) (b .loop .f) (s .samples .now) (s .env .now) (s .left .now) (b .loop .left) (omega arith) (omega arith) (omega arith) (omega arith) (i .3 .onLeft);
-        onRight = four-more (gains (s .ra) (s .rb) (s .rc) (s .rd)) (s .at) (s .n) (s .m) (b .loop .f) (s .samples .now) (s .env .now) (s .right .now) (b .loop .right) (omega arith) (omega arith) (omega arith) (omega arith) (i .3 .onRight);
+        onLeft = four-more (gains (s .la) (s .lb) (s .lc) (s .ld)) (s .at) (s .n) (s .m) (b .loop .f) (s .samples .now) (s .env .now) (s .left .now)
+            (b .loop .left) (omega arith) (omega arith) (omega arith) (omega arith) (i .3 .onLeft);
+        onRight = four-more (gains (s .ra) (s .rb) (s .rc) (s .rd)) (s .at) (s .n) (s .m) (b .loop .f) (s .samples .now) (s .env .now) (s .right .now)
+            (b .loop .right) (omega arith) (omega arith) (omega arith) (omega arith) (i .3 .onRight);
       },
     )
 

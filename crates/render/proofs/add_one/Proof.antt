@@ -10,7 +10,11 @@ use Rattle.render.proofs.add_one.Statement.{statement}
 use Rattle.render.proofs.add_one.Tie as tie
 
 abbrev Inv-loop : tie.InvT-loop
-Inv-loop samples at env m l r left₀ right₀ f₀ left right f = (f ≤ m) × (length left ≡ length left₀) × (length right ≡ length right₀) × BothSides (λ g. addSide g (row at f samples) (take m env)) l r left₀ right₀ left right
+Inv-loop samples at env m l r left₀ right₀ f₀ left right f =
+    (f ≤ m)
+    × (length left ≡ length left₀)
+    × (length right ≡ length right₀)
+    × BothSides (λ g. addSide g (row at f samples) (take m env)) l r left₀ right₀ left right
 
 abbrev μ-loop : tie.MeasureT-loop
 μ-loop samples at env m l r left₀ right₀ f₀ left right f = m - f

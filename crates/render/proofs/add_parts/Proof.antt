@@ -12,7 +12,11 @@ use Rattle.render.proofs.add_parts.Statement.{statement}
 use Rattle.render.proofs.add_parts.Tie as tie
 
 abbrev Inv-loop : tie.InvT-loop
-Inv-loop v n trem samples p left₀ right₀ e₀ a₀ left right e a = (a ≤ n) × (e ≡ aged a (v .env)) × Added onLeft n trem (drop p samples) (shown v) left₀ a left × Added onRight n trem (drop p samples) (shown v) right₀ a right
+Inv-loop v n trem samples p left₀ right₀ e₀ a₀ left right e a =
+    (a ≤ n)
+    × (e ≡ aged a (v .env))
+    × Added onLeft n trem (drop p samples) (shown v) left₀ a left
+    × Added onRight n trem (drop p samples) (shown v) right₀ a right
 
 abbrev μ-loop : tie.MeasureT-loop
 μ-loop v n trem samples p left₀ right₀ e₀ a₀ left right e a = n - a
@@ -94,8 +98,10 @@ loop-again c =
     let es : take m (f .fill .result .levels) ≡ levels (x .v .gain) (x .trem) m (aged a (x .v .env)) = rw (all, i .1) at (f .fill .ensures .numbers) in (
       fits,
       env,
-      added-more onLeft (x .n) (x .trem) (drop (x .p) (x .samples .now)) (shown (x .v)) (x .left .now) a m _ (b .loop .left) _ fits (s .pre .leftSums) es (e .onLeft) (omega (arith, call .add-copies .kept)) (i .2),
-      added-more onRight (x .n) (x .trem) (drop (x .p) (x .samples .now)) (shown (x .v)) (x .right .now) a m _ (b .loop .right) _ fits (s .pre .rightSums) es (e .onRight) (omega (arith, call .add-copies .kept)) (i .3),
+      added-more onLeft (x .n) (x .trem) (drop (x .p) (x .samples .now)) (shown (x .v)) (x .left .now)
+          a m _ (b .loop .left) _ fits (s .pre .leftSums) es (e .onLeft) (omega (arith, call .add-copies .kept)) (i .2),
+      added-more onRight (x .n) (x .trem) (drop (x .p) (x .samples .now)) (shown (x .v)) (x .right .now)
+          a m _ (b .loop .right) _ fits (s .pre .rightSums) es (e .onRight) (omega (arith, call .add-copies .kept)) (i .3),
     )
 
 same-length : tie.Need-same-length Inv-loop μ-loop

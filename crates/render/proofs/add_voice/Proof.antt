@@ -36,7 +36,8 @@ room p n k copies len e h = rw e at (leb-true (p + n * k) len h)
 
 -- every test passed
 module _ (t : tie.Else4) where
-  fits : let x = t .before .before .before .before .before .before .before .before .before .before .args in Fits (x .v) (x .n) (x .p) (x .samples .now) (x .left .now) (x .right .now)
+  fits : let x = t .before .before .before .before .before .before .before .before .before .before .args in
+      Fits (x .v) (x .n) (x .p) (x .samples .now) (x .left .now) (x .right .now)
   fits =
       let k = t .before .before .copies-shown in
       record {

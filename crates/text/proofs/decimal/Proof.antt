@@ -50,7 +50,10 @@ missing-requires-3 : tie.Need-missing-requires-3 Inv-loop μ-loop
 missing-requires-3 c κs = search needs
 
 returns-3 : tie.Need-returns-3 Inv-loop μ-loop
-returns-3 c = let i = c .before .before .before .before .loop .inv in rw (c .missing3 .ensures) (none-more _ _ _ _ _ _ (i .0) (i .1) (omega arith) (c .before .before .grows .ensures .no (not-true _ (c .before .if3 .taken))))
+returns-3 c =
+    let i = c .before .before .before .before .loop .inv in
+    let large = c .before .before .grows .ensures .no (not-true _ (c .before .if3 .taken)) in
+    rw (c .missing3 .ensures) (none-more _ _ _ _ _ _ (i .0) (i .1) (omega arith) large)
 
 mul-value : tie.Need-mul-value Inv-loop μ-loop
 mul-value c = omega (arith, c .before .grows .ensures .yes (not-false _ (c .if3 .left)))
@@ -71,7 +74,10 @@ loop-less : tie.Need-loop-less Inv-loop μ-loop
 loop-less c = omega (arith, c .before .before .before .before .loop .inv .1 .inside (omega arith))
 
 loop-again : tie.Need-loop-again Inv-loop μ-loop
-loop-again c = let i = c .before .before .before .before .loop .inv in let g = c .before .before .grows .ensures .yes (not-false _ (c .before .if3 .left)) in (reading-more _ _ _ _ _ _ (i .0) (i .1) (omega arith) (g .0) (g .1), c .decimal-at3 .ensures)
+loop-again c =
+    let i = c .before .before .before .before .loop .inv in
+    let g = c .before .before .grows .ensures .yes (not-false _ (c .before .if3 .left)) in
+    (reading-more _ _ _ _ _ _ (i .0) (i .1) (omega arith) (g .0) (g .1), c .decimal-at3 .ensures)
 
 returns-4 : tie.Need-returns-4 Inv-loop μ-loop
 returns-4 c = let i = c .before .loop .inv in read-done _ _ _ _ _ _ (i .0) (i .1) (c .loop-test .left)

@@ -26,7 +26,9 @@ same-length : tie.Need-same-length
 same-length c = search needs
 
 returns : tie.Need-returns
-returns c = put-part _ _ _ _ _ _ _ (c .before .before .before .before .before .before .before .spell-decimal .ensures) (c .before .before .before .before .before .before .before .spell-decimal .kept .1 .0) (c .before .before .put-literal .ensures)
+returns c =
+    let spelt = c .before .before .before .before .before .before .before .spell-decimal in
+    put-part _ _ _ _ _ _ _ (spelt .ensures) (spelt .kept .1 .0) (c .before .before .put-literal .ensures)
 
 pub put-decimal-spec : {M : Type 1} → statement M
 put-decimal-spec =

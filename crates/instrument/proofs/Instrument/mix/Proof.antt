@@ -29,7 +29,7 @@ abbrev asked : tie.After-mix → tie.Else1
 asked a = a .before .before .before .before
 
 abbrev mixed-at : tie.After-struct-known → tie.After-mix
-mixed-at c = let p = c .before .before .before in p .before .before .before .before .before .before .before
+mixed-at c = c .before .before .before .before
 
 accepted : (t : tie.Else1) → let x = start (t .before) .args in refusalOf (x .self) (Call.mix (x .samples .now) (x .out .now)) ≡ 0
 accepted t = sym (number (t .before)) ∙ t .if1 .left
@@ -58,6 +58,12 @@ slice-aggregate-mix-3 c = search needs
 mix-requires : tie.Need-mix-requires
 mix-requires c κs = search needs
 
+sub-gone : tie.Need-sub-gone
+sub-gone c =
+    let a = mixed-at c in
+    let t = asked a in
+    omega (arith, mix-played _ _ _ (long (t .before)) (held (t .before)) (accepted t) (a .mix .ensures) .size)
+
 slice-aggregate-put : tie.Need-slice-aggregate-put
 slice-aggregate-put c = search needs
 
@@ -66,12 +72,6 @@ slice-aggregate-put-2 c = search needs
 
 put-requires : tie.Need-put-requires
 put-requires c κs = search needs
-
-sub-gone : tie.Need-sub-gone
-sub-gone c =
-    let a = mixed-at c in
-    let t = asked a in
-    omega (arith, mix-played _ _ _ (long (t .before)) (held (t .before)) (accepted t) (a .mix .ensures) .size)
 
 mixed-requires : tie.Need-mixed-requires
 mixed-requires c κs = search needs
@@ -82,9 +82,10 @@ same-length c = search needs
 returns-2 : tie.Need-returns-2
 unfolding blockedAs
 returns-2 c =
-    let a = mixed-at (c .before) in
+    let p = c .before .before .before in
+    let a = mixed-at (p .before .before .before .before) in
     let t = asked a in
-    mix-done _ _ _ (long (t .before)) (held (t .before)) (accepted t) (a .mix .ensures) _ _ (search needs) (search needs) (c .before .before .before .before .put .ensures) (c .mixed .ensures)
+    mix-done _ _ _ (long (t .before)) (held (t .before)) (accepted t) (a .mix .ensures) _ _ (p .put .ensures) (c .mixed .ensures)
 
 pub mix-spec : {M : Type 1} → statement M
 mix-spec =
@@ -98,10 +99,10 @@ mix-spec =
     slice-aggregate-mix-2
     slice-aggregate-mix-3
     mix-requires
+    sub-gone
     slice-aggregate-put
     slice-aggregate-put-2
     put-requires
-    sub-gone
     mixed-requires
     same-length
     returns-2)

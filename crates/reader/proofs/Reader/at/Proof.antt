@@ -43,7 +43,8 @@ use Rattle.reader.proofs.Reader.at.Code as code
 abbrev stayed : Stays (at.ended .signature .params) (at.ended .kept)
 stayed = (stay-none B yes, (stay-none (λ _. P.the-row) yes, tt))
 
-module _ {M : Type 1} (𝓤 : URA M) (H : Heap 𝓤) (A : Atoms 𝓤) (W : Given 𝓤 H A) (mem : Memory → SProp 𝓤) (run : Routine → Fun 𝓤) (κ : Lft) (q : Share) (d : Reader) (c : Cursor) (ok : Is P.the-row c (P′.lowered c ∷ [])) where
+module _ {M : Type 1} (𝓤 : URA M) (H : Heap 𝓤) (A : Atoms 𝓤) (W : Given 𝓤 H A) (mem : Memory → SProp 𝓤) (run : Routine → Fun 𝓤)
+    (κ : Lft) (q : Share) (d : Reader) (c : Cursor) (ok : Is P.the-row c (P′.lowered c ∷ [])) where
   abbrev κs : Lfts 1
   κs = (κ, tt)
 
@@ -80,19 +81,27 @@ module _ {M : Type 1} (𝓤 : URA M) (H : Heap 𝓤) (A : Atoms 𝓤) (W : Given
         qed W ((‵ (flft κ q) ⊛ ‵ ftrue) ∷ ‵ (owns (B κs ∷ P.the-row ∷ []) (d, (c, tt)) vals) ∷ []) ∵ enter ! C Λ code.function (mach ∷ machᶜ ∷ []) _ $
         alloc1 ! (λ l₀. alloc1 ! (λ l₁. alloc1 ! (λ l₂. alloc1 ! (λ l₃. alloc0 ! $ params1 ! $ pass1 ! (init ! 4 refl wt) $ pass1 ! (init ! 2 refl wtᶜ) $ pass0 ! $
         assigns ! (of-opd ! (load ! (from ! (fld ! refl (stop !))) (look-in ! 4 (sub ! 0 refl (whole !))))) (from ! (stop !)) (init ! 0 refl (tt, wt .1 .0)) $
-        assigns ! (agg ! (and-then ! (load ! (from ! (stop !)) (look ! 0 refl)) (and-then ! (load ! (from ! (stop !)) (look ! 2 refl)) (no-more !)))) (from ! (stop !)) (init ! 6 refl (tt, (wt .1 .0, (wtᶜ .1, tt)))) $
+        assigns ! (agg ! (and-then ! (load ! (from ! (stop !)) (look ! 0 refl)) (and-then ! (load ! (from ! (stop !)) (look ! 2 refl)) (no-more !)))) (from ! (stop !))
+        (init ! 6 refl (tt, (wt .1 .0, (wtᶜ .1, tt)))) $
         returns ! (look ! 6 refl) $ forget ! 0 refl $ forget ! 2 refl $ forget ! 4 refl $ forget ! 6 refl $
         move ! (6 ∷ 7 ∷ []) $ free1 ! $ move ! (4 ∷ 5 ∷ []) $ free1 ! $ move ! (2 ∷ 3 ∷ []) $ free1 ! $ free1 ! $ free0 ! $ by ! exits))))
 
 module _ {M : Type 1} (𝓤 : URA M) (H : Heap 𝓤) (A : Atoms 𝓤) (W : Given 𝓤 H A) (mem : Memory → SProp 𝓤) (run : Routine → Fun 𝓤) where
   at-walks : (C : Calls 𝓤 H) (Λ : Loops 𝓤 H) → Walks 𝓤 H A at.ended stayed (WpFn 𝓤 H C Λ code.function) (at.clauses 𝓤 H A mem run)
-  at-walks C Λ = walked 𝓤 H A at.ended stayed (at.clauses 𝓤 H A mem run) (WpFn 𝓤 H C Λ code.function) (λ κs. (LL.vals (D κs) (L κs), (LL.vals P.the-type P′.the-laws, tt))) (λ κs. (LL.tells (D κs) (L κs), (LL.tells P.the-type P′.the-laws, tt)))
+  at-walks C Λ =
+      walked 𝓤 H A at.ended stayed (at.clauses 𝓤 H A mem run) (WpFn 𝓤 H C Λ code.function)
+      (λ κs. (LL.vals (D κs) (L κs), (LL.vals P.the-type P′.the-laws, tt)))
+      (λ κs. (LL.tells (D κs) (L κs), (LL.tells P.the-type P′.the-laws, tt)))
       (λ κs qs bounds a g are. via 𝓤 _ (fst∗ 𝓤 _ (emp 𝓤)) (walk 𝓤 H A W mem run (κs .0) (qs .0) (a .0) (a .1 .0) (are .1 .0) C Λ
       (LL.lawful (D κs) (L κs) 𝓤 H A W .typed (a .0) _ (are .0) .0) (LL.lawful P.the-type P′.the-laws 𝓤 H A W .typed (a .1 .0) _ (are .1 .0) .0)))
 
 at-meets : {M : Type 1} (𝓤 : URA M) (H : Heap 𝓤) (A : Atoms 𝓤) → Given 𝓤 H A → (mem : Memory → SProp 𝓤) (run : Routine → Fun 𝓤) (𝓣 : Tables 𝓤 H)
     → Meets 𝓤 H A at.signature (WpFn 𝓤 H (𝓣 .C) (𝓣 .Λ) code.function) (at.spec 𝓤 H A mem run)
-at-meets 𝓤 H A W mem run 𝓣 = walk-meets 𝓤 H A at.ended stayed W (goes-none 𝓤 H A W 1 B yes (λ κs x f. refl), (goes-none 𝓤 H A W 1 (λ _. P.the-row) yes (λ κs x f. refl), tt)) (at.clauses 𝓤 H A mem run) (WpFn 𝓤 H (𝓣 .C) (𝓣 .Λ) code.function) (WpFn-mono 𝓤 H (W .laws) 𝓣 code.function) (at-walks 𝓤 H A W mem run (𝓣 .C) (𝓣 .Λ))
+at-meets 𝓤 H A W mem run 𝓣 =
+    walk-meets 𝓤 H A at.ended stayed W
+    (goes-none 𝓤 H A W 1 B yes (λ κs x f. refl), (goes-none 𝓤 H A W 1 (λ _. P.the-row) yes (λ κs x f. refl), tt))
+    (at.clauses 𝓤 H A mem run) (WpFn 𝓤 H (𝓣 .C) (𝓣 .Λ) code.function) (WpFn-mono 𝓤 H (W .laws) 𝓣 code.function)
+    (at-walks 𝓤 H A W mem run (𝓣 .C) (𝓣 .Λ))
 
 pub at-spec : {M : Type 1} → stated.statement M
 unfolding code.routine tablesOf

@@ -114,7 +114,10 @@ module _ {M : Type 1} (𝓤 : URA M) (H : Heap 𝓤) (A : Atoms 𝓤) (W : Given
         assigns ! (of-opd ! (load ! (from ! (fld ! refl (stop !))) (look-in ! 4 (sub ! 1 refl (whole !))))) (from ! (stop !)) (init ! 0 refl (tt, wt .1 .1 .0)) $
         move ! (8 ∷ []) $ use1 W (raw (Callee 𝓤 H A mem run .pre to) ⊛ ‵ Own) apart $ split ! $
         calls-at ! fm (Callee 𝓤 H A mem run) known to (and-then ! (load ! (from ! (stop !)) (look ! 4 refl)) (and-then ! (load ! (from ! (stop !)) (look ! 2 refl)) (no-more !))) (λ u.
-        use1 W (later (some (λ (r : Tally). ((‵ (flft κ q) ⊛ ‵ ftrue) ⊛ ‵ (O.the-row .own r (u ∷ []))) ⊛ raw (ensured 𝓤 H A callee.ended (callee.clauses 𝓤 H A mem run) κs (d .stream, (d .cursor, tt)) tt r)))) (id⊢ 𝓤 _) $ await ! tt $ pick ! (λ r.
+        use1 W
+        (later (some (λ (r : Tally). ((‵ (flft κ q) ⊛ ‵ ftrue) ⊛ ‵ (O.the-row .own r (u ∷ [])))
+        ⊛ raw (ensured 𝓤 H A callee.ended (callee.clauses 𝓤 H A mem run) κs (d .stream, (d .cursor, tt)) tt r))))
+        (id⊢ 𝓤 _) $ await ! tt $ pick ! (λ r.
         split ! $ move ! (1 ∷ []) $ use1 W (raw (fact 𝓤 (r ≡ found))) (said r) $ heard ! (r ≡ found) (λ e. split ! $ move ! (1 ∷ []) $
         -- [the tally; the token; the reader; _3; …; _2; …; _1; …; room for _0; …]
         peeks ! O.the-row (Is O.the-row) (shows 𝓤 H A O.the-row) r (u ∷ []) (λ is.
@@ -131,7 +134,9 @@ module _ {M : Type 1} (𝓤 : URA M) (H : Heap 𝓤) (A : Atoms 𝓤) (W : Given
 tally-meets : {M : Type 1} (𝓤 : URA M) (H : Heap 𝓤) (A : Atoms 𝓤) (W : Given 𝓤 H A) (mem : Memory → SProp 𝓤) (run : Routine → Fun 𝓤) (𝓣 : Tables 𝓤 H)
     → Triple 𝓤 (𝓣 .C #reader·tally-from) (Callee 𝓤 H A mem run)
     → Meets 𝓤 H A tally.signature (WpFn 𝓤 H (𝓣 .C) (𝓣 .Λ) code.function) (tally.spec 𝓤 H A mem run)
-tally-meets 𝓤 H A W mem run 𝓣 known = walk-meets 𝓤 H A tally.ended stayed W (goes-none 𝓤 H A W 1 B yes (λ κs x f. refl), tt) (tally.clauses 𝓤 H A mem run) (WpFn 𝓤 H (𝓣 .C) (𝓣 .Λ) code.function) (WpFn-mono 𝓤 H (W .laws) 𝓣 code.function)
+tally-meets 𝓤 H A W mem run 𝓣 known =
+    walk-meets 𝓤 H A tally.ended stayed W (goes-none 𝓤 H A W 1 B yes (λ κs x f. refl), tt)
+    (tally.clauses 𝓤 H A mem run) (WpFn 𝓤 H (𝓣 .C) (𝓣 .Λ) code.function) (WpFn-mono 𝓤 H (W .laws) 𝓣 code.function)
     (tally-walks 𝓤 H A W mem run (𝓣 .C) (𝓣 .Λ) (fmOf 𝓤 H (W .laws) 𝓣) known)
 
 pub tally-spec : {M : Type 1} → stated.statement M
