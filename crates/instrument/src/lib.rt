@@ -111,18 +111,18 @@ fn is_accepted(design: InstrumentDesign) -> bool
     }
 }
 
-// Whether a block may have n frames: fewer where the modulation is active.
-fn frames_fit(design: InstrumentDesign, n: usize) -> bool
-    ensures { λ b. ⌜ b ≡ framesFit design n ⌝ }
+// Whether a block may have so many frames: fewer where the modulation is active.
+fn frames_fit(design: InstrumentDesign, frames: usize) -> bool
+    ensures { λ b. ⌜ b ≡ framesFit design frames ⌝ }
 {
-    if n < 1 {
+    if frames < 1 {
         return false;
     }
     let modulation = design.modulation;
     if modulation.is_active() {
-        return n <= 64;
+        return frames <= 64;
     }
-    n <= 1024
+    frames <= 1024
 }
 
 fn block_fits(design: InstrumentDesign, frames: usize) -> bool
@@ -135,19 +135,25 @@ fn block_fits(design: InstrumentDesign, frames: usize) -> bool
 }
 
 // Check 1, the counts, the design, the next handle and the block.
-fn numbers_fit(design: InstrumentDesign, n: usize, h: usize, next: u64, frames: usize) -> bool
-    ensures { λ b. ⌜ b ≡ numbersFit design n h next frames ⌝ }
+fn numbers_fit(
+    design: InstrumentDesign,
+    voices: usize,
+    held: usize,
+    next: u64,
+    frames: usize,
+) -> bool
+    ensures { λ b. ⌜ b ≡ numbersFit design voices held next frames ⌝ }
 {
-    if 64 < n {
+    if 64 < voices {
         return false;
     }
-    if 256 < h {
+    if 256 < held {
         return false;
     }
     if !is_accepted(design) {
         return false;
     }
-    if 2 * (design.max_voices as usize) < n {
+    if 2 * (design.max_voices as usize) < voices {
         return false;
     }
     if next < 1 {
