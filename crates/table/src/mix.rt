@@ -28,7 +28,9 @@ impl Table {
         right: &mut [f32],
         ended: &mut [u64],
     ) -> Table
-        ensures { λ r. ⌜ MixedTable frames trem self (now (samples .entry)) (now (left .entry)) (now (right .entry)) (now (ended .entry)) (now (left .exit)) (now (right .exit)) (now (ended .exit)) r ⌝ }
+        ensures { λ r.
+            ⌜ MixedTable frames trem self (now (samples .entry)) (now (left .entry)) (now (right .entry)) (now (ended .entry))
+            (now (left .exit)) (now (right .exit)) (now (ended .exit)) r ⌝ }
     {
         let n = smaller(frames, 1024);
         let count = smaller(self.count, 64);
