@@ -4,7 +4,7 @@ use design::{Adsr, InstrumentDesign, Modulation, PlayMode};
 use instrument::{Instrument, Outcome, Reply};
 
 // How large a state is: the design's max and unison, and how many voices are struck before and after an all-off.
-#[derive(Drop)]
+#[derive(Clone, Copy)]
 pub struct Size {
     pub max: u32,
     pub unison: u32,

@@ -1,6 +1,8 @@
 // The Rattle side of the speed comparison (docs/BENCHMARK.md). Each export builds a state by real calls, repeats one
 // call `rounds` times and returns a sum over what the calls gave, which must equal the Rust's.
 
+#![tactic(auto)]
+
 mod build;
 mod events;
 mod rounds;

@@ -1,5 +1,7 @@
 // Plan's glide of a voice: each copy writes its pitch numbers (the Rust's `glide_block`, copy by copy).
 
+#![tactic(auto)]
+
 ghost use Rattle.std.specs.Prelude.{◌≡◌, true, false, map, ◌+◌, ◌*◌, ◌≤◌, ◌<◌, length, take, replicate};
 ghost use Rattle.stream.specs.Pitch.{glide_step, stepped, heard as heard_of, GlidedOver};
 ghost use Rattle.curves.specs.Glides.{column, GlidedCopies, GlidedVoice, StandsAs, StandingCurve};

@@ -1,12 +1,14 @@
 // The instrument's design (the Rust's design.rs): play mode, modulation, and what a design must be to be accepted.
 // The patch, the pitch map and the master chain are the host's.
 
+#![tactic(auto)]
+
 ghost use Rattle.std.specs.Prelude.{◌≡◌};
 ghost use Rattle.design.specs.Zeros.{zero_design};
 ghost use Rattle.design.specs.Accepted.{lfo_active, modulated, modulation_finite, numbers_fit, floats_fit, design_reply, copies_of};
 
 // How notes share voices.
-#[derive(Drop)]
+#[derive(Clone, Copy)]
 pub enum PlayMode {
     Poly,
     // One voice at a time; `legato` keeps its envelope running.
@@ -14,7 +16,7 @@ pub enum PlayMode {
 }
 
 // The amplitude envelope's settings: seconds, seconds, a level, seconds.
-#[derive(Drop)]
+#[derive(Clone, Copy)]
 pub struct Adsr {
     pub a: f32,
     pub d: f32,
@@ -23,7 +25,7 @@ pub struct Adsr {
 }
 
 // Rate and depth of each LFO. A rate or depth not above 0 is off.
-#[derive(Drop)]
+#[derive(Clone, Copy)]
 pub struct Modulation {
     pub vibrato_rate: f32,
     pub vibrato_cents: f32,
@@ -74,13 +76,13 @@ impl Modulation {
 }
 
 // The answer to a design: accepted, or refused with the number of the reason.
-#[derive(Drop)]
+#[derive(Clone, Copy)]
 pub enum DesignReply {
     Accepted,
     Refused(u8),
 }
 
-#[derive(Drop)]
+#[derive(Clone, Copy)]
 pub struct InstrumentDesign {
     pub sample_rate: u32,
     pub max_voices: u32,

@@ -1,12 +1,14 @@
 // The gated envelope of a voice (the Rust's envelope.rs), as a record that goes in by value and comes back.
 
+#![tactic(auto)]
+
 ghost use Rattle.std.specs.Prelude.{◌≡◌};
 ghost use Rattle.envelope.specs.Start.{rate_fits, all_finite, new_env, refused_env};
 ghost use Rattle.envelope.specs.Gates.{at, gated_on, gated_off, killed, is_active, is_faded};
 ghost use Rattle.envelope.specs.Ticks.{ticked, ticked_attack, ticked_decay, ticked_release};
 
 // Stage of a gated envelope.
-#[derive(Drop)]
+#[derive(Clone, Copy)]
 pub enum Stage {
     Idle,
     Attack,
@@ -16,7 +18,7 @@ pub enum Stage {
 }
 
 // Linear segments: `a`, `d`, `r` in seconds, `s` a level, `sr` the sample rate.
-#[derive(Drop)]
+#[derive(Clone, Copy)]
 pub struct EnvGen {
     pub a: f32,
     pub d: f32,
@@ -30,13 +32,13 @@ pub struct EnvGen {
 }
 
 // The answer of `EnvGen::new`: ready, or refused with the number of the reason.
-#[derive(Drop)]
+#[derive(Clone, Copy)]
 pub enum EnvReply {
     Ready,
     Refused(u8),
 }
 
-#[derive(Drop)]
+#[derive(Clone, Copy)]
 pub struct NewEnvGen {
     pub reply: EnvReply,
     pub env: EnvGen,

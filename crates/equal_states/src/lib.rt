@@ -1,6 +1,8 @@
 // Whether two instrument states are the same up to their counts: what stands behind a count is not looked at.
 // Each part is compared by itself and the answers are joined, so that a comparison has one way out.
 
+#![tactic(auto)]
+
 ghost use Rattle.std.specs.Prelude.{◌≡◌, take};
 ghost use Rattle.voice.specs.View.{seen};
 ghost use Rattle.table.specs.View.{seen_first};

@@ -1,6 +1,8 @@
 // The methods of Rust's f32 that the instrument uses, as functions that take every float.
 // Each equals a definition over IEEE 754's operations; where Rust leaves a sign open, the definition fixes it.
 
+#![tactic(auto)]
+
 ghost use Rattle.std.specs.Prelude.{◌≡◌, cond};
 ghost use Rattle.std.specs.Float.{binary32};
 ghost use Rattle.std.specs.Float.Ieee.{is_nan, of_bits as of_bits, to_bits};

@@ -1,4 +1,7 @@
 // The forms of the script program, read from a line.
+
+#![tactic(auto)]
+
 ghost use Rattle.std.specs.Prelude.{◌≡◌, true, false, [], ◌<◌};
 ghost use Rattle.text.specs.Read.{Any};
 ghost use Rattle.forms.specs.Forms.{mode_text, FormAs};
@@ -7,7 +10,7 @@ ghost use Rattle.forms.specs.Led.{LedAs, LedWords, LedEnd, LedDecimal, LedMode, 
 use text::Read;
 
 // The numbers of a design line, in its order; floats as their bits.
-#[derive(Drop)]
+#[derive(Clone, Copy)]
 pub struct DesignForm {
     pub rate: u64,
     pub max: u64,
@@ -28,14 +31,14 @@ pub struct DesignForm {
     pub filter_octaves: u64,
 }
 
-#[derive(Drop)]
+#[derive(Clone, Copy)]
 pub struct OnForm {
     pub note: u64,
     pub velocity: u64,
     pub built: u64,
 }
 
-#[derive(Drop)]
+#[derive(Clone, Copy)]
 pub enum Form {
     Unread,
     Design(DesignForm),
@@ -44,7 +47,7 @@ pub enum Form {
 }
 
 // The numbers of a design line from `amp` on.
-#[derive(Drop)]
+#[derive(Clone, Copy)]
 struct SoundRead {
     ok: bool,
     next: usize,
@@ -61,13 +64,13 @@ struct SoundRead {
     filter_octaves: u64,
 }
 
-#[derive(Drop)]
+#[derive(Clone, Copy)]
 struct DesignRead {
     ok: bool,
     form: DesignForm,
 }
 
-#[derive(Drop)]
+#[derive(Clone, Copy)]
 struct OnRead {
     ok: bool,
     form: OnForm,

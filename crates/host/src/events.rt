@@ -9,7 +9,7 @@ use midi::{Answer, Cursor};
 use wire::HostEnv;
 
 #[repr(C)]
-#[derive(Drop)]
+#[derive(Clone, Copy)]
 pub struct HostEnvOutcome {
     // 1 where the stage's number is none, else 0.
     pub number: u32,
@@ -18,7 +18,7 @@ pub struct HostEnvOutcome {
 
 // `kind`: 0 refused, 1 on, 2 off, 3 pedal, 4 all-off, 5 bend, 6 other, 7 end. What a kind does not name is 0.
 #[repr(C)]
-#[derive(Drop)]
+#[derive(Clone, Copy)]
 pub struct HostEvent {
     pub kind: u32,
     // The number of the refusal.

@@ -1,5 +1,7 @@
 // The calls for a host in C or Rust: each reads the numbers of a state, makes the instrument's call and writes the numbers of the next one.
 
+#![tactic(auto)]
+
 ghost use Rattle.std.specs.Prelude.{◌≡◌, List, ℕ};
 ghost use Rattle.model.specs.Types.{Control, Call};
 ghost use Rattle.model.specs.Queries.{is_active, active_voices};
@@ -19,7 +21,7 @@ pub mod events;
 // What a call or a query replies. `kind`: 0 refused, 1 started, 2 silent, 3 kept, 4 off, 5 done, 6 released, 7 planned, 8 mixed,
 // 9 ready, 10 active, 11 voices, 12 handle, 13 no handle. What a kind does not name is 0.
 #[repr(C)]
-#[derive(Drop)]
+#[derive(Clone, Copy)]
 pub struct HostReply {
     pub kind: u32,
     // The number of the refusal.

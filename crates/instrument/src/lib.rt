@@ -1,5 +1,7 @@
 // The instrument (the Rust's instrument/mod.rs): the calls on it.
 
+#![tactic(auto)]
+
 ghost use Rattle.std.specs.Prelude.{◌≡◌, true, ◌<◌};
 ghost use Rattle.design.specs.Accepted.{is_accepted};
 ghost use Rattle.model.specs.Types.{Control, Call};
@@ -46,7 +48,7 @@ pub struct Instrument {
 }
 
 // What a call replies; the number is that of the refusal.
-#[derive(Drop)]
+#[derive(Clone, Copy)]
 pub enum Reply {
     // A new handle with its voice; the handles killed and taken out, 0 for none.
     Started(u64, u64, u64),
@@ -69,7 +71,7 @@ pub struct Outcome {
 }
 
 // What Mix replies; the number is that of the refusal.
-#[derive(Drop)]
+#[derive(Clone, Copy)]
 pub enum MixReply {
     // How many voices ended.
     Mixed(usize),
@@ -85,7 +87,7 @@ pub struct MixOutcome {
 }
 
 // What a query answers; the number is that of the refusal.
-#[derive(Drop)]
+#[derive(Clone, Copy)]
 pub enum Answer {
     Active(bool),
     Voices(usize),

@@ -9,6 +9,8 @@
 // with no line of `made`, but for states that no list of calls reaches (111 to 147, 153 to 164, 605: those lines are by
 // document 01), and `tools/instrument_compare` fails unless the Rust's answers are those of `stdout`.
 
+#![tactic(auto)]
+
 use libc::{STDIN_FILENO, STDOUT_FILENO};
 use replay::Session;
 

@@ -1,5 +1,7 @@
 // The envelope's tick for a caller that keeps the record (the Rust's `EnvGen::tick` with `&mut self`).
 
+#![tactic(auto)]
+
 ghost use Rattle.std.specs.Prelude.{◌≡◌};
 ghost use Rattle.envelope.specs.Ticks.{ticked};
 

@@ -1,6 +1,8 @@
 // Answers lines on notes, envelopes, copies and designs, as the Rust answered them (oracle/README.md).
 // A line in is a letter and seven words, 65 bytes; a line out is a letter and eight words, 74 bytes.
 
+#![tactic(auto)]
+
 mod words;
 
 use design::{Adsr, DesignReply, InstrumentDesign, Modulation, PlayMode};
@@ -9,7 +11,7 @@ use stream::{Cutoff, UnisonCopy};
 use words::{field, float, say};
 
 // One envelope, one copy, and the settings that a line on designs takes over.
-#[derive(Drop)]
+#[derive(Clone, Copy)]
 struct Leaf {
     env: EnvGen,
     copy: UnisonCopy,
@@ -68,7 +70,7 @@ fn say_env(letter: u8, first: u32, e: EnvGen) {
 }
 
 // Whether a cutoff was set, and which.
-#[derive(Drop)]
+#[derive(Clone, Copy)]
 struct Cut {
     set: u32,
     bits: u32,
@@ -168,7 +170,7 @@ fn gate_line(mut leaf: Leaf, s: &[u8]) -> Leaf {
     leaf
 }
 
-#[derive(Drop)]
+#[derive(Clone, Copy)]
 struct Ticked {
     env: EnvGen,
     sum: u32,
@@ -356,7 +358,7 @@ fn step(leaf: Leaf, letter: u8, s: &[u8]) -> Leaf {
     }
 }
 
-#[derive(Drop)]
+#[derive(Clone, Copy)]
 struct Answered {
     leaf: Leaf,
     more: bool,

@@ -1,6 +1,8 @@
 // The levels of one voice over up to 64 frames (the envelope's part of the Rust's `render_block`), by runs of one
 // stage. A run steps plain numbers as long as its stage lasts. The tick that leaves the stage is the envelope's own.
 
+#![tactic(auto)]
+
 ghost use Rattle.std.specs.Prelude.{◌≤◌, ◌≡◌, length};
 ghost use Rattle.std.specs.Float.Ieee.{le};
 ghost use Rattle.float32.specs.Numbers.{one};
@@ -12,14 +14,14 @@ use envelope::{EnvGen, Stage};
 use lists::smaller;
 
 // The envelope behind the frames, and the levels of the frames with zeros behind them.
-#[derive(Drop)]
+#[derive(Clone, Copy)]
 pub struct Filled {
     pub env: EnvGen,
     pub levels: [f32; 64],
 }
 
 // Where a run stands: the level of its last frame, and the frame that comes next.
-#[derive(Drop)]
+#[derive(Clone, Copy)]
 struct Run {
     level: f32,
     at: usize,

@@ -68,7 +68,7 @@ module _ {A B : Type 0} {s : A → B} {vs : List A} where
   pass-keeps {ys = ys} {i = i} [] p h = let e : i + 0 ≡ i = omega arith in rw (e, append-nil) p
   pass-keeps {ys = ys} {i = i} (x ∷ xs) p h =
       let e : suc i + length xs ≡ i + suc (length xs) = omega arith in
-      let q = pass-keeps xs (rw add-one at (pass-keep x (s x) refl p (omega arith))) (omega arith) in
+      let q = pass-keeps {ys = ys ++ s x ∷ []} {i = suc i} xs (rw add-one at (pass-keep x (s x) refl p (omega arith))) (omega arith) in
       rw (e, append_assoc) at q
 
 module _ {A B C : Type 0} where

@@ -1,5 +1,7 @@
 // Definitions and laws on lists: they stand in specs/. The code keeps a pass with a count inside its array.
 
+#![tactic(auto)]
+
 ghost use Rattle.std.specs.Prelude.{◌≡◌, true, ◌*◌, ◌≤◌, min, eqb};
 
 // The smaller of two sizes: a pass never leaves its array.

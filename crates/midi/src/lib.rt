@@ -1,4 +1,7 @@
 // A reader of MIDI 1.0 bytes: from a cursor in a stream to the next event.
+
+#![tactic(auto)]
+
 ghost use Rattle.std.specs.Prelude.{◌≡◌};
 ghost use Rattle.midi.specs.Bytes.{within, may_run};
 ghost use Rattle.midi.specs.Messages.{note_on_event, control_event, event, message};
@@ -6,13 +9,13 @@ ghost use Rattle.midi.specs.Steps.{first_data, data_byte, fed, refused, at_end, 
 ghost use Rattle.midi.specs.Streams.{Progress, RealTimeIgnored, RoundTrip, EndLast, RefusalKeeps, Limits};
 
 // A place in a stream, and the running status there, 0 for none.
-#[derive(Drop)]
+#[derive(Clone, Copy)]
 pub struct Cursor {
     pub place: usize,
     pub status: u8,
 }
 
-#[derive(Drop)]
+#[derive(Clone, Copy)]
 pub enum Answer {
     // A note and its velocity, above 0 and at most 1.
     On(u8, f32),
@@ -28,14 +31,14 @@ pub enum Answer {
     Refused(u8),
 }
 
-#[derive(Drop)]
+#[derive(Clone, Copy)]
 pub struct Outcome {
     pub answer: Answer,
     pub cursor: Cursor,
 }
 
 // How much of a message was read. Under running status a message has no status byte of its own.
-#[derive(Drop)]
+#[derive(Clone, Copy)]
 enum Part {
     Nothing,
     Status,
@@ -43,13 +46,13 @@ enum Part {
 }
 
 // What the reader knows between two bytes.
-#[derive(Drop)]
+#[derive(Clone, Copy)]
 struct Scan {
     pub status: u8,
     pub part: Part,
 }
 
-#[derive(Drop)]
+#[derive(Clone, Copy)]
 enum Fed {
     More(Scan),
     Event(Answer),

@@ -1,4 +1,7 @@
 // Reads lines `(midi place status hex)` and prints each step over that stream, one a line.
+
+#![tactic(auto)]
+
 use libc::{STDIN_FILENO, STDOUT_FILENO};
 use midi::Cursor;
 

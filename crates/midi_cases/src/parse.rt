@@ -3,7 +3,7 @@ ghost use Rattle.std.specs.Prelude.{◌≤◌, length};
 
 use midi::Cursor;
 
-#[derive(Drop)]
+#[derive(Clone, Copy)]
 pub enum Request {
     Unread,
     // The cursor, and how many bytes of the stream were filled in.
@@ -11,7 +11,7 @@ pub enum Request {
 }
 
 // The number at the start of a text, and how many digits it has.
-#[derive(Drop)]
+#[derive(Clone, Copy)]
 pub struct Number {
     pub value: u64,
     pub digits: usize,

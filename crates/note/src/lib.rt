@@ -1,11 +1,13 @@
 // Notes and their frequencies (the Rust's note.rs). Parsing and printing of note names are left to the host.
 
+#![tactic(auto)]
+
 ghost use Rattle.std.specs.Prelude.{◌≡◌};
 ghost use Rattle.note.specs.Frequency.{freq_of};
 ghost use Rattle.note.specs.Temperament.{Temperament};
 
 // A pitch as a MIDI note number. A4 is 69, at 440 Hz.
-#[derive(Drop)]
+#[derive(Clone, Copy)]
 pub struct Note(pub u8);
 
 // The frequency of each note in Hz, from one build of the Rust's `Note::freq` (docs/DECISIONS.md, "The frequency

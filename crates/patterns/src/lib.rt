@@ -1,6 +1,8 @@
 // Lines by patterns: what a line holds, and what is printed. A capital letter of a pattern stands for a number, any other
 // byte for itself. A list of forms has a pattern a line; each ends in a line feed, which is printed and never read.
 
+#![tactic(auto)]
+
 ghost use Rattle.std.specs.Prelude.{◌<◌, ◌≤◌, length};
 
 use text::Read;
@@ -8,14 +10,14 @@ use text::Read;
 pub mod sums;
 
 // The place of a form in its list, and its numbers in their order.
-#[derive(Drop)]
+#[derive(Clone, Copy)]
 pub struct Form {
     pub number: usize,
     pub values: [u64; 5],
 }
 
 // How far a line fits a pattern.
-#[derive(Drop)]
+#[derive(Clone, Copy)]
 struct Fitted {
     ok: bool,
     at: usize,

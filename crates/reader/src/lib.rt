@@ -1,5 +1,8 @@
 // A reader of MIDI bytes that keeps its stream beside its cursor. Each method takes it apart, and leaves the work to a
 // function on a plain slice.
+
+#![tactic(auto)]
+
 ghost use Rattle.std.specs.Prelude.{◌≡◌, [], ◌∷◌};
 ghost use Rattle.midi.specs.Answers.{is_event};
 ghost use Rattle.midi.specs.Steps.{stepped};
@@ -9,14 +12,14 @@ ghost use Rattle.reader.specs.Tallies.{counts_of, plus, Within, tallied, TallyCo
 
 use midi::{Answer, Cursor, Outcome};
 
-#[derive(Drop)]
+#[derive(Clone, Copy)]
 pub struct Reader<'a> {
     pub stream: &'a [u8],
     pub cursor: Cursor,
 }
 
 // How many events of each kind.
-#[derive(Drop)]
+#[derive(Clone, Copy)]
 pub struct Counts {
     pub ons: usize,
     pub offs: usize,
@@ -27,7 +30,7 @@ pub struct Counts {
 }
 
 // The events that were read, and the outcome that ended the reading: the stream's end, or a refusal.
-#[derive(Drop)]
+#[derive(Clone, Copy)]
 pub struct Tally {
     pub counts: Counts,
     pub last: Outcome,

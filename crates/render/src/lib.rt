@@ -1,6 +1,8 @@
 // A voice in the mix (the Rust's `render_block` of instrument/mod.rs), in parts of at most 64 frames.
 // Each sum takes its terms in the order of the Rust: voice by voice, copy by copy.
 
+#![tactic(auto)]
+
 ghost use Rattle.std.specs.Prelude.{◌≡◌, ◌+◌, ◌*◌, ◌≤◌, leb, length, take, drop};
 ghost use Rattle.lists.specs.Prefix.{fold};
 ghost use Rattle.model.specs.Voices.{aged};

@@ -2,6 +2,8 @@
 // A design, an `on` and `(voices)` are read by `forms`, every other line by the list of forms in `ask`; every reply is the
 // instrument's, the envelope's or the reader's own.
 
+#![tactic(auto)]
+
 use ask::ENVS;
 use envelope::EnvGen;
 use instrument::Instrument;

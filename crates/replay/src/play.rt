@@ -5,7 +5,7 @@ use crate::{ask, blocks, calls, said, show};
 use instrument::Instrument;
 use patterns::Form;
 
-#[derive(Drop)]
+#[derive(Clone, Copy)]
 pub struct Played {
     pub state: Instrument,
     pub at: usize,

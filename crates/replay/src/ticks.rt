@@ -4,19 +4,19 @@ use crate::said;
 use envelope::{EnvGen, Stage};
 use patterns::{Form, bits, float_of, sums, word_of};
 
-#[derive(Drop)]
+#[derive(Clone, Copy)]
 pub struct Gated {
     pub env: EnvGen,
     pub at: usize,
 }
 
-#[derive(Drop)]
+#[derive(Clone, Copy)]
 struct Turned {
     env: EnvGen,
     said: Form,
 }
 
-#[derive(Drop)]
+#[derive(Clone, Copy)]
 struct Ticked {
     env: EnvGen,
     sum: u64,

@@ -1,5 +1,7 @@
 // What stands in a state, as the replay format prints it.
 
+#![tactic(auto)]
+
 use instrument::Instrument;
 use note::Note;
 use patterns::{bits, flag, put};

@@ -1,19 +1,21 @@
 // One copy of a voice and the pitch part of the graph that renders it
 // (the Rust's UnisonCopy, and StreamGraph of streaming/mod.rs). The graph's samples are the host's.
 
+#![tactic(auto)]
+
 ghost use Rattle.std.specs.Prelude.{◌≡◌, ◌≤◌, length};
 ghost use Rattle.stream.specs.Copies.{spread_of, new_copy, unless_one, caught_up};
 ghost use Rattle.stream.specs.Pitch.{bent, cut_to, glided_to, GlidedOver};
 
 // The filter cutoff last set, for the host to read.
-#[derive(Drop)]
+#[derive(Clone, Copy)]
 pub enum Cutoff {
     Unset,
     Set(f32),
 }
 
 // A copy: its channel gains, the note's pitch scale on its way to a target, and the pitch wheel's factor.
-#[derive(Drop)]
+#[derive(Clone, Copy)]
 pub struct UnisonCopy {
     pub l: f32,
     pub r: f32,

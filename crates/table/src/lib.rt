@@ -1,6 +1,8 @@
 // The table of voices (the Rust's `voices: Vec<Voice>`): every pass over the voices of an instrument, once, by value.
 // A table is an array with a count; a pass reads it up to its count, and never past the array.
 
+#![tactic(auto)]
+
 ghost use Rattle.std.specs.Prelude.{◌≡◌, map, [], ◌∷◌, ◌++◌, ◌≤◌, take};
 ghost use Rattle.lists.specs.Count.{one_if, count};
 ghost use Rattle.lists.specs.Least.{lowest, lowest_next};

@@ -1,11 +1,14 @@
 // Numbers as text: read from a line, and put into a buffer that the caller lends.
+
+#![tactic(auto)]
+
 ghost use Rattle.std.specs.Prelude.{◌≡◌, false, ◌<◌, length};
 ghost use Rattle.text.specs.Text.{decimal_text, word_text, figure, glyph as glyph_of};
 ghost use Rattle.text.specs.Read.{DecimalAs, WordAs, LiteralAs, ValueAs, FigureAs, GrowsAs};
 ghost use Rattle.text.specs.Put.{PutAs, EndsIn};
 
 // `value` stood in the line up to `next`; where not ok, 0 and the place asked.
-#[derive(Drop)]
+#[derive(Clone, Copy)]
 pub struct Read {
     pub ok: bool,
     pub value: u64,

@@ -1,5 +1,7 @@
 // One voice (the Rust's Voice): what a call may make of it and ask of it, and a new one.
 
+#![tactic(auto)]
+
 ghost use Rattle.std.specs.Prelude.{◌≡◌, ◌≤◌, length, take};
 ghost use Rattle.model.specs.Voices.{released_voice, killed_voice, with_sustained, with_copies, aimed_at, struck_again};
 ghost use Rattle.model.specs.Notes.{off_voice, plays as plays_of, kept_voice};
@@ -15,7 +17,7 @@ use lists::smaller;
 use note::Note;
 use stream::UnisonCopy;
 
-#[derive(Drop)]
+#[derive(Clone, Copy)]
 pub struct Voice {
     pub handle: u64,
     pub note: Note,
@@ -33,7 +35,7 @@ pub struct Voice {
 }
 
 // What may be made of a copy.
-#[derive(Drop)]
+#[derive(Clone, Copy)]
 pub enum CopyChange {
     Bend(f32),
     Cutoff(f32),
@@ -44,7 +46,7 @@ pub enum CopyChange {
 }
 
 // What may be made of a voice.
-#[derive(Drop)]
+#[derive(Clone, Copy)]
 pub enum VoiceChange {
     Kill,
     Release,
@@ -62,7 +64,7 @@ pub enum VoiceChange {
 }
 
 // What may be asked of a voice.
-#[derive(Drop)]
+#[derive(Clone, Copy)]
 pub enum VoiceTest {
     Any,
     Sounding,

@@ -1,6 +1,8 @@
 // Reads lines of the replay format from standard input and prints the answer to each.
 // Input and output go by blocks; memory is the same for every input.
 
+#![tactic(auto)]
+
 ghost use Rattle.std.specs.Prelude.{◌≡◌, ◌≤◌, ◌<◌, length};
 
 use libc::{STDIN_FILENO, STDOUT_FILENO};

@@ -1,5 +1,8 @@
 // voicescript: reads the forms of the script language from standard input, one a line, and prints one a line.
 // What a line says and does is `script::line`'s; here bytes are only gathered to lines and written out.
+
+#![tactic(auto)]
+
 use libc::{STDIN_FILENO, STDOUT_FILENO};
 use script::Session;
 

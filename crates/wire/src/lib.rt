@@ -1,6 +1,8 @@
 // The state as a host in C or Rust keeps it: numbers alone, since an enum cannot cross. A number stands for each
 // mode, stage and yes or no.
 
+#![tactic(auto)]
+
 ghost use Rattle.std.specs.Prelude.{◌≡◌, map, take};
 ghost use Rattle.voice.specs.View.{seen};
 ghost use Rattle.table.specs.View.{seen_first};
@@ -20,7 +22,7 @@ use voice::Voice;
 pub mod numbers;
 
 #[repr(C)]
-#[derive(Drop)]
+#[derive(Clone, Copy)]
 pub struct HostDesign {
     pub sample_rate: u32,
     pub max_voices: u32,
@@ -42,7 +44,7 @@ pub struct HostDesign {
 }
 
 #[repr(C)]
-#[derive(Drop)]
+#[derive(Clone, Copy)]
 pub struct HostCopy {
     pub l: f32,
     pub r: f32,
@@ -56,7 +58,7 @@ pub struct HostCopy {
 }
 
 #[repr(C)]
-#[derive(Drop)]
+#[derive(Clone, Copy)]
 pub struct HostEnv {
     pub a: f32,
     pub d: f32,
@@ -70,7 +72,7 @@ pub struct HostEnv {
 }
 
 #[repr(C)]
-#[derive(Drop)]
+#[derive(Clone, Copy)]
 pub struct HostVoice {
     pub handle: u64,
     pub copy_count: usize,

@@ -6,8 +6,7 @@ use native.Mathlib.Omega.{arith}
 use borrow.Author.Tests.{eq-eqb, ne_eqb, eqb-true}
 use borrow.Author.Rules.{rules}
 use lib.Dec.{eqb}
-use Rattle.lists.proofs.fills.Statement.{statement}
-use Rattle.lists.proofs.fills.Tie as tie
+use Rattle.lists.proofs.fills.Goals as goal
 
 same : (a b : Bool) → (a ≡ true → b ≡ true) → (b ≡ true → a ≡ true) → a ≡ b
 same true b f g = sym (f refl)
@@ -35,33 +34,18 @@ even frames rows len n h =
     positive zero f = absurd (f refl)
     positive (suc n) f = omega arith
 
-small-requires : tie.Need-small-requires
-small-requires c κs = search rules
-
-mul-result : tie.Need-overflow-mul-result
-mul-result c =
-    let h = c.before.small.ensures c.if1.true in
-    let a = c.before.before.args in
+pub overflow_mul-result : goal.overflow_mul-result
+overflow_mul-result c =
+    let h = c.small.ensures c.if-small.true in
+    let a = c.args in
     let p : a.frames * a.rows ≤ 0xffff * 0xffff = mul-le-mul h.0 h.1 in
     omega (arith, p)
 
-returns : tie.Need-returns
-returns c = search rules
+pub returns-then-rows-eq0 : goal.returns-then-rows-eq0
+returns-then-rows-eq0 c = none _ _ _ c.if-rows-eq0.true
 
-returns-2 : tie.Need-returns-2
-returns-2 c = none _ _ _ c.if2.true
+pub returns-then-len-rows-ne0 : goal.returns-then-len-rows-ne0
+returns-then-len-rows-ne0 c = uneven _ _ _ c.if-len-rows-ne0.true
 
-rem-if3 : tie.Need-nonzero-rem-if3
-rem-if3 c = search rules
-
-returns-3 : tie.Need-returns-3
-returns-3 c = uneven _ _ _ c.if3.true
-
-div-result : tie.Need-nonzero-div-result
-div-result c = search rules
-
-returns-4 : tie.Need-returns-4
-returns-4 c = even _ _ _ c.before.if2.false c.if3.false
-
-pub fills-spec : {M : Type 1} → statement M
-fills-spec = tie.close (tie.spec small-requires mul-result returns returns-2 rem-if3 returns-3 div-result returns-4)
+pub returns : goal.returns
+returns c = even _ _ _ c.if-rows-eq0.false c.if-len-rows-ne0.false
