@@ -1,4 +1,3 @@
--- Each root is checked at its 24 digits by squares of whole numbers, which antt computes.
 use mathlib.Core.Path.{◌≡◌, refl}
 use mathlib.Core.Bool.{true, false}
 use Prim.Native.Nat.{ℕ, zero, suc, ◌+◌, ◌*◌, ◌^◌, ◌≤◌, ◌<◌}
@@ -7,8 +6,9 @@ use borrow.Author.Tests.{ltb-true, leb-true}
 use lib.Dec.{ltb, leb}
 use lib.Ieee.{Float, of_bits, round, binary32}
 use Rattle.float32.specs.Root.{root_of, NearestRoot, RootsNearest}
-use Rattle.float32.proofs.roots_nearest.Statement.{statement}
-use Rattle.float32.proofs.roots_nearest.Tie as tie
+use Rattle.float32.proofs.roots_nearest.Goals as goal
+
+-- Each root is checked at its 24 digits by squares of whole numbers, which antt computes.
 
 checked : (n p k : ℕ) (x : Float) → x ≡ round binary32 false p (2 ^ k) → leb (2 ^ 23) p ≡ true → ltb p (2 ^ 24) ≡ true
     → ltb (4 * (p * p) + 1) (4 * (n * 2 ^ (2 * k)) + 4 * p) ≡ true → ltb (4 * (n * 2 ^ (2 * k))) (4 * (p * p) + 4 * p + 1) ≡ true → NearestRoot n x
@@ -30,9 +30,6 @@ every : (n : ℕ) → 1 ≤ n → n ≤ 8 → NearestRoot n (root_of n)
 every zero h k = let z : ⊥ = omega arith in absurd z
 every (suc n) h k = all n (omega arith)
 
-returns : tie.Need-returns
+pub returns : goal.returns
 unfolding RootsNearest
 returns c = every
-
-pub roots-nearest-spec : {M : Type 1} → statement M
-roots-nearest-spec = tie.close (tie.spec returns)

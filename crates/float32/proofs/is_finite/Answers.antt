@@ -3,10 +3,10 @@ use mathlib.Core.Bool.{Bool, true, false}
 use lib.Ieee.{Float, nan, inf, fin, lt, neg, div, binary32, of_bits}
 use lib.Ieee.Scale.{finite}
 use Rattle.float32.specs.Numbers.{zero, one}
-use Rattle.float32.proofs.is_finite.Statement.{statement}
-use Rattle.float32.proofs.is_finite.Tie as tie
+use Rattle.float32.proofs.is_finite.Goals as goal
 
 -- what is below +∞ is finite where it is above -∞, and what is not below +∞ is not finite
+
 low : (x : Float) → lt x (div binary32 one zero) ≡ true → lt (neg (div binary32 one zero)) x ≡ finite x
 unfolding lt neg div of_bits
 low nan h = refl
@@ -20,11 +20,8 @@ high nan h = refl
 high (inf s) h = refl
 high (fin s m e) h = sym h
 
-returns : tie.Need-returns
-returns c = low c.before.args.x c.if1.true
+pub returns-then-x-infinity : goal.returns-then-x-infinity
+returns-then-x-infinity c = low c.args.x c.if-x-infinity.true
 
-returns-2 : tie.Need-returns-2
-returns-2 c = high c.before.args.x c.if1.false
-
-pub is-finite-spec : {M : Type 1} → statement M
-is-finite-spec = tie.close (tie.spec returns returns-2)
+pub returns-else-x-infinity : goal.returns-else-x-infinity
+returns-else-x-infinity c = high c.args.x c.if-x-infinity.false
