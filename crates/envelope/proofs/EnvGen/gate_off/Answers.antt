@@ -5,8 +5,7 @@ use Rattle.envelope.specs.declared.EnvGen.{EnvGen}
 use Rattle.envelope.specs.Gates.{gated_off, at, released, is_idle}
 use Rattle.envelope.proofs.Stages.{not-idle}
 use borrow.Author.Rules.{rules}
-use Rattle.envelope.proofs.EnvGen.gate_off.Statement.{statement}
-use Rattle.envelope.proofs.EnvGen.gate_off.Tie as tie
+use Rattle.envelope.proofs.EnvGen.gate_off.Goals as goal
 
 idle : (e : EnvGen) → is_idle e.stage ≡ true → e ≡ gated_off e
 unfolding gated_off
@@ -16,18 +15,9 @@ gated : (e : EnvGen) → is_idle e.stage ≡ false → released e e.r ≡ gated_
 unfolding gated_off
 gated e h = sym (cond-false _ _ _ h)
 
-enum_told : tie.Need-enum-told
-enum_told c = search rules
+pub returns-in-Idle : goal.returns-in-Idle
+returns-in-Idle c = idle _ (rw c.enum_told-1.given.1)
 
-returns : tie.Need-returns
-returns c = idle _ (rw c.enum_told.given.1)
-
-at-requires : tie.Need-at-requires
-at-requires c κs = search rules
-
-returns-2 : tie.Need-returns-2
+pub returns : goal.returns
 unfolding at released
-returns-2 c = c.at.ensures ∙ gated _ (not-idle c.before.before.args.self.stage c.before.match.keys2)
-
-pub gate-off-spec : {M : Type 1} → statement M
-gate-off-spec = tie.close (tie.spec enum_told returns at-requires returns-2)
+returns c = c.at.ensures ∙ gated _ (not-idle c.args.self.stage c.in_default.keys2)

@@ -1,4 +1,3 @@
--- The rule is one test that antt computes over the whole table, and one law that turns it into the rule of each entry.
 use mathlib.Core.Path.{◌≡◌, refl}
 use mathlib.Core.Bool.{Bool, true, ◌&&◌}
 use Prim.Native.Nat.{ℕ, ◌+◌, ◌*◌, ◌-◌, ◌^◌, ◌<◌}
@@ -10,8 +9,9 @@ use Rattle.lists.specs.Choose.{both}
 use Rattle.lists.specs.Every.{every, every-at}
 use Rattle.note.specs.Frequency.{frequencies, freq_of}
 use Rattle.note.specs.Temperament.{Tempered}
-use Rattle.note.proofs.temperament.Statement.{statement}
-use Rattle.note.proofs.temperament.Tie as tie
+use Rattle.note.proofs.temperament.Goals as goal
+
+-- The rule is one test that antt computes over the whole table, and one law that turns it into the rule of each entry.
 
 abbrev near : ℕ → Float → Bool
 near n x =
@@ -33,9 +33,6 @@ all : (n : ℕ) → n < 256 → Tempered n (freq_of n)
 unfolding freq_of
 all n h = tempered n _ (every-at near nan frequencies n computed h)
 
-returns : tie.Need-returns
+pub returns : goal.returns
 unfolding freq_of
 returns c = record { near = all; concert_a = refl }
-
-pub temperament-spec : {M : Type 1} → statement M
-temperament-spec = tie.close (tie.spec returns)
