@@ -18,7 +18,7 @@ loop-i-preserved c =
     let p = c.place.ensures in
     (elim c.if-place-note.branch [
       then-place-note w ↦ (omega arith, rw (w.notes-is, w.count-is) (keeping-more h.notes _ _ c.loop-i.i c.loop-i.notes _ (omega arith) c.loop-i.invariant.1 (omega arith) (λ e. w.if-place-note.true (p.0 ∙ e))))
-      | else-place-note w ↦ (omega arith, rw (w.notes-is, w.count-is) (keeping-skip h.notes _ _ c.loop-i.i c.loop-i.notes _ (omega arith) c.loop-i.invariant.1 (sym p.0 ∙ w.if-place-note.left))) ])
+      | else-place-note w ↦ (omega arith, rw (w.notes-is, w.count-is) (keeping-skip h.notes _ _ c.loop-i.i c.loop-i.notes _ (omega arith) c.loop-i.invariant.1 (sym p.0 ∙ w.if-place-note.false))) ])
 
 pub returns : goal.returns
 returns c =
