@@ -1,0 +1,9 @@
+use mathlib.Core.Path.{◌∙◌, ap}
+use lib.Ieee.{Float}
+use Rattle.envelope.specs.Gates.{killed, with_release, gated_off}
+use borrow.Author.Rules.{rules}
+use Rattle.envelope.proofs.EnvGen.kill.Goals as goal
+
+pub returns : goal.returns
+unfolding killed with_release
+returns c = c.gate_off.ensures ∙ ap (λ (x : Float). gated_off (with_release c.args.self x)) c.min.ensures
