@@ -1,23 +1,21 @@
 -- `forms::read` meets its contract: one law for each way out.
-use Rattle.forms.proofs.Wholes.{too_long, is-design, is-on, is-voices, is_none}
+use native.Mathlib.Omega.{arith}
+use Rattle.forms.proofs.Wholes.{is-design, is-on, is-voices, is_none}
 use Rattle.forms.proofs.read.Goals as goal
 
-pub returns-then-line-gt256 : goal.returns-then-line-gt256
-returns-then-line-gt256 c = too_long _ c.if-line-gt256.true
-
 pub returns-then-design : goal.returns-then-design
-returns-then-design c = is-design _ c.if-line-gt256.false _ c.read_design-design.ensures c.if-design.true
+returns-then-design c = is-design _ (omega arith) _ c.read_design-design.ensures c.if-design.true
 
 pub returns-then-on : goal.returns-then-on
 returns-then-on c =
-    is-on _ c.if-line-gt256.false _ c.read_design-design.ensures c.if-design.false _ c.read_on-on.ensures c.if-on.true
+    is-on _ (omega arith) _ c.read_design-design.ensures c.if-design.false _ c.read_on-on.ensures c.if-on.true
 
 pub returns-then-voices : goal.returns-then-voices
 returns-then-voices c =
-    is-voices _ c.if-line-gt256.false _ c.read_design-design.ensures c.if-design.false _ c.read_on-on.ensures c.if-on.false _ _
+    is-voices _ (omega arith) _ c.read_design-design.ensures c.if-design.false _ c.read_on-on.ensures c.if-on.false _ _
     c.read_at-begin.ensures c.led_end-voices.ensures c.if-voices.true
 
 pub returns : goal.returns
 returns c =
-    is_none _ c.if-line-gt256.false _ c.read_design-design.ensures c.if-design.false _ c.read_on-on.ensures c.if-on.false _ _
+    is_none _ (omega arith) _ c.read_design-design.ensures c.if-design.false _ c.read_on-on.ensures c.if-on.false _ _
     c.read_at-begin.ensures c.led_end-voices.ensures c.if-voices.false
