@@ -2,7 +2,7 @@ use mathlib.Core.Path.{sym, ◌∙◌}
 use borrow.Author.Tests.{ne_eqb}
 use Rattle.midi.proofs.control_event.Goals as goal
 
--- `midi::control_event` meets its contract: the tests on the controller cond the case.
+-- `midi::control_event` meets its contract: the tests on the controller pick the case.
 
 pub returns-then-controller-eq64 : goal.returns-then-controller-eq64
 returns-then-controller-eq64 c = rw c.if-controller-eq64.true
