@@ -2,8 +2,8 @@ use mathlib.Core.Path.{◌≡◌, sym, ◌∙◌}
 use mathlib.Core.Bool.{Bool, true, false, not, ◌||◌}
 use borrow.Author.Tests.{not-true, not-false}
 use borrow.Author.Rules.{rules}
-use Rattle.render.proofs.goes_on_lem.Statement.{statement}
-use Rattle.render.proofs.goes_on_lem.Tie as tie
+use Rattle.render.proofs.goes_on.Statement.{statement}
+use Rattle.render.proofs.goes_on.Tie as tie
 
 idle : (a b : Bool) → a ≡ false → false ≡ not (not a || b)
 idle a b e = rw e

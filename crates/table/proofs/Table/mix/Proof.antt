@@ -145,10 +145,10 @@ loop-again c =
     sums.0 sums.1.0 c.if1.ended c.if1.self.voices c.if1.gone g.before.before.before.smaller3.result (b.loop.i + 1) =
     rw more
     (⊎_elim
-    (λ y. rw (y.5, y.6, y.7, y.2.ensures) (mix-not _ _ v (short d) u e w r m g.goes_on_lem.ensures (not-true _ y.0.taken)))
+    (λ y. rw (y.5, y.6, y.7, y.2.ensures) (mix-not _ _ v (short d) u e w r m g.goes_on.ensures (not-true _ y.0.taken)))
     (⊎_elim
-    (λ y. rw (y.3, y.4, y.5) (mix-up _ _ v (short d) u e w r m g.goes_on_lem.ensures (not-false _ y.0.left) y.1.taken room))
-    (λ y. rw (y.2, y.3, y.4) (mix-here _ _ v (short d) u e w r m g.goes_on_lem.ensures (not-false _ y.0.left) y.1.left room)))
+    (λ y. rw (y.3, y.4, y.5) (mix-up _ _ v (short d) u e w r m g.goes_on.ensures (not-false _ y.0.left) y.1.taken room))
+    (λ y. rw (y.2, y.3, y.4) (mix-here _ _ v (short d) u e w r m g.goes_on.ensures (not-false _ y.0.left) y.1.left room)))
     c.if1.branch) in
     (let z : next.stay + c.if1.gone ≡ b.loop.i + 1 = next.table.places in omega arith, omega arith, omega (arith, a.add-voice.kept, i.2), omega (arith, a.add-voice.kept, i.3), next)
 

@@ -11,8 +11,7 @@ use lib.ListN.{length, take}
 use Rattle.lists.specs.Choose.{clash}
 use Rattle.model.specs.Mix.{interleave}
 use Rattle.render.specs.Mixes.{FitsOut, PutAs}
-use Rattle.render.proofs.put.Statement.{statement}
-use Rattle.render.proofs.put.Tie as tie
+use Rattle.render.proofs.put.Goals as goal
 
 module _ (left right : List Float) (m : ℕ) (old : List Float) where
   left_alone : (FitsOut m left right old → ⊥) → PutAs left right m old old
@@ -31,36 +30,26 @@ module _ (left right : List Float) (m : ℕ) (old : List Float) where
   done new h e = record { written = λ _. e; refused = λ f. absurd (f h) }
 
 -- every test passed
-module _ (t : tie.Else3) where
-  fits : let x = t.before.before.before.before.before.before.before.args in FitsOut x.m x.left.now x.right.now x.out.now
+
+module _ (t : goal.Else-not-fills) where
+  fits : let x = t.args in FitsOut x.m x.false.now x.right.now x.out.now
   fits = record {
     left_sums = omega arith;
     right_sums = omega arith;
-    places = eqb-true _ _ (sym t.before.fills.ensures ∙ not-false _ t.if3.false);
+    places = eqb-true _ _ (sym t.fills.ensures ∙ not-false _ t.if-not-fills.false);
   }
 
-returns : tie.Need-returns
-returns c = few-left _ _ _ _ c.if1.true
+pub returns-then-m-left : goal.returns-then-m-left
+returns-then-m-left c = few-left _ _ _ _ c.if-m-left.true
 
-returns-2 : tie.Need-returns-2
-returns-2 c = few-right _ _ _ _ c.if2.true
+pub returns-then-m-right : goal.returns-then-m-right
+returns-then-m-right c = few-right _ _ _ _ c.if-m-right.true
 
-fills-requires : tie.Need-fills-requires
-fills-requires c κs = search rules
+pub returns-then-not-fills : goal.returns-then-not-fills
+returns-then-not-fills c = other-places _ _ _ _ (sym c.fills.ensures ∙ c.if-not-fills.true)
 
-returns-3 : tie.Need-returns-3
-returns-3 c = other-places _ _ _ _ (sym c.before.fills.ensures ∙ not-true _ c.if3.true)
+pub put_pairs-requires : goal.put_pairs-requires
+put_pairs-requires c = fits c.before
 
-put-pairs-requires : tie.Need-put-pairs-requires
-put-pairs-requires c κs = fits c.before
-
-same_length : tie.Need-same-length
-same_length c = search rules
-
-returns-4 : tie.Need-returns-4
-returns-4 c = done _ _ _ _ _ (fits c.before.before.before.before) c.before.before.put-pairs.ensures
-
-pub put_spec : {M : Type 1} → statement M
-put_spec =
-    tie.close
-    (tie.spec returns returns-2 fills-requires returns-3 put-pairs-requires same_length returns-4)
+pub returns : goal.returns
+returns c = done _ _ _ _ _ (fits c.before.before.before.before) c.put_pairs.ensures
