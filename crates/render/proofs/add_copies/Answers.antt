@@ -15,67 +15,62 @@ all-copies : (v : Voice) (j k : ℕ) → j ≡ k → k ≡ length (shown v).copi
 unfolding shown
 all-copies v j k e h = rw (e, h, length-take) (take_min v.copy_count _ v.copies refl)
 
--- the samples of all copies, of the four copies and of the one copy of a turn
-
-module _ (b : goal.At-loop-j) where
-  all : b.args.p
-      + b.args.n * b.copies_shown-k.result
-      ≤ length b.args.samples.now
-  all = rw b.copies_shown-k.ensures.1 b.requires.0
-
-module _ (t : goal.Then-k-j-ge4) where
-  four : t.loop-j.q
-      + t.args.n
-      + t.args.n
-      + t.args.n
-      + t.args.n
-      ≤ length t.args.samples.now
-  four =
-      let b = t.before.before in
-      let fit = four-fit b.args.n b.loop-j.j b.copies_shown-k.result t.if-k-j-ge4.true t.loop-j-test.true in
-      omega (arith, all b, fit, b.loop-j.invariant.1)
-
-module _ (t : goal.Else-k-j-ge4) where
-  one : t.loop-j.q
-      + t.args.n
-      ≤ length t.args.samples.now
-  one =
-      let b = t.before.before in
-      let fit = row_fits b.args.n b.loop-j.j b.copies_shown-k.result t.loop-j-test.true in
-      omega (arith, all b, fit, b.loop-j.invariant.1)
-
-pub loop-j-init : goal.loop-j-init
-loop-j-init c = (search rules, omega arith, refl, refl, refl, refl)
-
 pub overflow_add-q : goal.overflow_add-q
 overflow_add-q c =
-    let t = c.before.before.before.before in
-    omega (arith, four t, t.well_formed.1.0.0, t.requires)
+    let all : c.args.p + c.args.n * c.copies_shown-k.result ≤ length c.args.samples.now = rw c.copies_shown-k.ensures.1 c.requires.0 in
+    let fit = four-fit c.args.n c.loop-j.j c.copies_shown-k.result c.if-k-j-ge4.true c.loop-j-test.true in
+    omega (arith, all, fit, c.loop-j.invariant.1, c.well_formed.1.0.0, c.requires)
 
 pub add_four_copies-requires : goal.add_four_copies-requires
 add_four_copies-requires c =
-    let t = c.before.before.before.before.before.before in
-    omega (arith, four t, t.well_formed.1.0.0, t.requires)
+    let all : c.args.p + c.args.n * c.copies_shown-k.result ≤ length c.args.samples.now = rw c.copies_shown-k.ensures.1 c.requires.0 in
+    let fit = four-fit c.args.n c.loop-j.j c.copies_shown-k.result c.if-k-j-ge4.true c.loop-j-test.true in
+    omega (arith, all, fit, c.loop-j.invariant.1, c.well_formed.1.0.0, c.requires)
 
 pub overflow_add-q-then-k-j-ge4 : goal.overflow_add-q-then-k-j-ge4
 overflow_add-q-then-k-j-ge4 c =
-    let t = c.before.before.before.before.before.before.before.before.before.before.before in
-    omega (arith, four t, t.well_formed.1.0.0, t.requires)
+    let all : c.args.p + c.args.n * c.copies_shown-k.result ≤ length c.args.samples.now = rw c.copies_shown-k.ensures.1 c.requires.0 in
+    let fit = four-fit c.args.n c.loop-j.j c.copies_shown-k.result c.if-k-j-ge4.true c.loop-j-test.true in
+    omega (arith, all, fit, c.loop-j.invariant.1, c.well_formed.1.0.0, c.requires)
 
 pub overflow_add-q-then-k-j-ge4-2 : goal.overflow_add-q-then-k-j-ge4-2
 overflow_add-q-then-k-j-ge4-2 c =
-    let t = c.before.before.before.before.before.before.before.before.before.before.before in
-    omega (arith, four t, t.well_formed.1.0.0, t.requires)
+    let all : c.args.p + c.args.n * c.copies_shown-k.result ≤ length c.args.samples.now = rw c.copies_shown-k.ensures.1 c.requires.0 in
+    let fit = four-fit c.args.n c.loop-j.j c.copies_shown-k.result c.if-k-j-ge4.true c.loop-j-test.true in
+    omega (arith, all, fit, c.loop-j.invariant.1, c.well_formed.1.0.0, c.requires)
 
 pub overflow_add-q-then-k-j-ge4-3 : goal.overflow_add-q-then-k-j-ge4-3
 overflow_add-q-then-k-j-ge4-3 c =
-    let t = c.before.before.before.before.before.before.before.before.before.before.before in
-    omega (arith, four t, t.well_formed.1.0.0, t.requires)
+    let all : c.args.p + c.args.n * c.copies_shown-k.result ≤ length c.args.samples.now = rw c.copies_shown-k.ensures.1 c.requires.0 in
+    let fit = four-fit c.args.n c.loop-j.j c.copies_shown-k.result c.if-k-j-ge4.true c.loop-j-test.true in
+    omega (arith, all, fit, c.loop-j.invariant.1, c.well_formed.1.0.0, c.requires)
 
 pub overflow_add-q-then-k-j-ge4-4 : goal.overflow_add-q-then-k-j-ge4-4
 overflow_add-q-then-k-j-ge4-4 c =
-    let t = c.before.before.before.before.before.before.before.before.before.before.before in
-    omega (arith, four t, t.well_formed.1.0.0, t.requires)
+    let all : c.args.p + c.args.n * c.copies_shown-k.result ≤ length c.args.samples.now = rw c.copies_shown-k.ensures.1 c.requires.0 in
+    let fit = four-fit c.args.n c.loop-j.j c.copies_shown-k.result c.if-k-j-ge4.true c.loop-j-test.true in
+    omega (arith, all, fit, c.loop-j.invariant.1, c.well_formed.1.0.0, c.requires)
+
+pub overflow_add-q-else-k-j-ge4 : goal.overflow_add-q-else-k-j-ge4
+overflow_add-q-else-k-j-ge4 c =
+    let all : c.args.p + c.args.n * c.copies_shown-k.result ≤ length c.args.samples.now = rw c.copies_shown-k.ensures.1 c.requires.0 in
+    let fit = row_fits c.args.n c.loop-j.j c.copies_shown-k.result c.loop-j-test.true in
+    omega (arith, all, fit, c.loop-j.invariant.1, c.well_formed.1.0.0, c.requires)
+
+pub add_one-requires : goal.add_one-requires
+add_one-requires c =
+    let all : c.args.p + c.args.n * c.copies_shown-k.result ≤ length c.args.samples.now = rw c.copies_shown-k.ensures.1 c.requires.0 in
+    let fit = row_fits c.args.n c.loop-j.j c.copies_shown-k.result c.loop-j-test.true in
+    omega (arith, all, fit, c.loop-j.invariant.1, c.well_formed.1.0.0, c.requires)
+
+pub overflow_add-q-else-k-j-ge4-2 : goal.overflow_add-q-else-k-j-ge4-2
+overflow_add-q-else-k-j-ge4-2 c =
+    let all : c.args.p + c.args.n * c.copies_shown-k.result ≤ length c.args.samples.now = rw c.copies_shown-k.ensures.1 c.requires.0 in
+    let fit = row_fits c.args.n c.loop-j.j c.copies_shown-k.result c.loop-j-test.true in
+    omega (arith, all, fit, c.loop-j.invariant.1, c.well_formed.1.0.0, c.requires)
+
+pub loop-j-init : goal.loop-j-init
+loop-j-init c = (search rules, omega arith, refl, refl, refl, refl)
 
 pub loop-j-preserved-then-k-j-ge4 : goal.loop-j-preserved-then-k-j-ge4
 loop-j-preserved-then-k-j-ge4 c =
@@ -90,26 +85,11 @@ loop-j-preserved-then-k-j-ge4 c =
       omega (arith, four-after x.n c.loop-j.j, i.1),
       omega (arith, call.auto, i.2),
       omega (arith, call.auto, i.3),
-      copy-four on_left x.n x.a x.m x.samples.now es (mixing (drop x.p x.samples.now) x.false.now)
-          x.v.copies c.loop-j.q c.loop-j.j c.loop-j.false _ (omega (arith, long, k)) e.on_left i.4,
+      copy-four on_left x.n x.a x.m x.samples.now es (mixing (drop x.p x.samples.now) x.left.now)
+          x.v.copies c.loop-j.q c.loop-j.j c.loop-j.left _ (omega (arith, long, k)) e.on_left i.4,
       copy-four on_right x.n x.a x.m x.samples.now es (mixing (drop x.p x.samples.now) x.right.now)
           x.v.copies c.loop-j.q c.loop-j.j c.loop-j.right _ (omega (arith, long, k)) e.on_right i.5,
     )
-
-pub overflow_add-q-else-k-j-ge4 : goal.overflow_add-q-else-k-j-ge4
-overflow_add-q-else-k-j-ge4 c =
-    let t = c.before in
-    omega (arith, one t, t.well_formed.1.0.0, t.requires)
-
-pub add_one-requires : goal.add_one-requires
-add_one-requires c =
-    let t = c.before.before.before in
-    omega (arith, one t, t.well_formed.1.0.0, t.requires)
-
-pub overflow_add-q-else-k-j-ge4-2 : goal.overflow_add-q-else-k-j-ge4-2
-overflow_add-q-else-k-j-ge4-2 c =
-    let t = c.before.before.before.before.before.before.before.before in
-    omega (arith, one t, t.well_formed.1.0.0, t.requires)
 
 pub loop-j-preserved : goal.loop-j-preserved
 loop-j-preserved c =
@@ -124,8 +104,8 @@ loop-j-preserved c =
       omega (arith, row-after x.n c.loop-j.j, i.1),
       omega (arith, call.auto, i.2),
       omega (arith, call.auto, i.3),
-      copy-one on_left x.n x.a x.m x.samples.now es (mixing (drop x.p x.samples.now) x.false.now)
-          x.v.copies c.loop-j.q c.loop-j.j c.loop-j.false _ (omega (arith, long, k)) e.on_left i.4,
+      copy-one on_left x.n x.a x.m x.samples.now es (mixing (drop x.p x.samples.now) x.left.now)
+          x.v.copies c.loop-j.q c.loop-j.j c.loop-j.left _ (omega (arith, long, k)) e.on_left i.4,
       copy-one on_right x.n x.a x.m x.samples.now es (mixing (drop x.p x.samples.now) x.right.now)
           x.v.copies c.loop-j.q c.loop-j.j c.loop-j.right _ (omega (arith, long, k)) e.on_right i.5,
     )

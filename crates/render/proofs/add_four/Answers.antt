@@ -19,8 +19,8 @@ loop-f-preserved c =
       simp length-set i.1,
       simp length-set i.2,
       record {
-        on_left = four-more (gains s.la s.lb s.lc s.ld) s.at s.n s.m c.loop-f.f s.samples.now s.env.now s.false.now
-            c.loop-f.false (omega arith) (omega arith) (omega arith) (omega arith) i.3.on_left;
+        on_left = four-more (gains s.la s.lb s.lc s.ld) s.at s.n s.m c.loop-f.f s.samples.now s.env.now s.left.now
+            c.loop-f.left (omega arith) (omega arith) (omega arith) (omega arith) i.3.on_left;
         on_right = four-more (gains s.ra s.rb s.rc s.rd) s.at s.n s.m c.loop-f.f s.samples.now s.env.now s.right.now
             c.loop-f.right (omega arith) (omega arith) (omega arith) (omega arith) i.3.on_right;
       },

@@ -19,7 +19,7 @@ loop-f-preserved c =
       simp length-set i.1,
       simp length-set i.2,
       record {
-        on_left = one_more s.samples.now s.env.now s.false.now s.at s.m c.loop-f.f (omega arith) (omega arith) (omega arith) s.l c.loop-f.false (omega arith) i.3.on_left;
+        on_left = one_more s.samples.now s.env.now s.left.now s.at s.m c.loop-f.f (omega arith) (omega arith) (omega arith) s.l c.loop-f.left (omega arith) i.3.on_left;
         on_right = one_more s.samples.now s.env.now s.right.now s.at s.m c.loop-f.f (omega arith) (omega arith) (omega arith) s.r c.loop-f.right (omega arith) i.3.on_right;
       },
     )

@@ -40,17 +40,11 @@ loop-a-preserved c =
     let es : take m c.fill-filled.result.levels ≡ levels x.v.gain x.trem m (aged a x.v.env) = rw (all, i.1) at c.fill-filled.ensures.numbers in (
       fits,
       env,
-      added_more on_left x.n x.trem (drop x.p x.samples.now) (shown x.v) x.false.now
-          a m _ c.loop-a.false _ fits c.requires.left_sums es e.on_left (omega (arith, c.add_copies.auto)) i.2,
+      added_more on_left x.n x.trem (drop x.p x.samples.now) (shown x.v) x.left.now
+          a m _ c.loop-a.left _ fits c.requires.left_sums es e.on_left (omega (arith, c.add_copies.auto)) i.2,
       added_more on_right x.n x.trem (drop x.p x.samples.now) (shown x.v) x.right.now
           a m _ c.loop-a.right _ fits c.requires.right_sums es e.on_right (omega (arith, c.add_copies.auto)) i.3,
     )
-
-pub shape_of-left : goal.shape_of-left
-shape_of-left c = c.loop-a.invariant.2.size
-
-pub shape_of-right : goal.shape_of-right
-shape_of-right c = c.loop-a.invariant.3.size
 
 pub returns : goal.returns
 returns c =

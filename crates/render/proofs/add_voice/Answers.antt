@@ -34,20 +34,6 @@ module _ (v : Voice) (n : ℕ) (trem : Float) (samples : List Float) (p : ℕ) (
 room : (p n k copies len : ℕ) → k ≡ copies → leb (p + n * k) len ≡ true → p + n * copies ≤ len
 room p n k copies len e h = rw e at (leb-true (p + n * k) len h)
 
--- every test passed
-
-module _ (t : goal.Else-not-stand_from) where
-  fits : let x = t.args in
-      Fits x.v x.n x.p x.samples.now x.false.now x.right.now
-  fits =
-      let k = t.copies_shown in
-      record {
-        frames = omega arith;
-        inputs = room _ _ _ _ _ k.ensures.1 (sym t.stand_from.ensures ∙ not-false _ t.if-not-stand_from.false);
-        left_sums = omega arith;
-        right_sums = omega arith;
-      }
-
 pub returns-then-n-gt1024 : goal.returns-then-n-gt1024
 returns-then-n-gt1024 c = long-block _ _ _ _ _ _ _ c.if-n-gt1024.true
 
@@ -61,14 +47,28 @@ pub returns-then-not-stand_from : goal.returns-then-not-stand_from
 returns-then-not-stand_from c = few-samples _ _ _ _ _ _ _ _ c.copies_shown.ensures.1 (leb-false _ _ (sym c.stand_from.ensures ∙ c.if-not-stand_from.true))
 
 pub add_parts-requires : goal.add_parts-requires
-add_parts-requires c = fits c.before.before
+add_parts-requires c =
+    let k = room _ _ _ _ _ c.copies_shown.ensures.1 (sym c.stand_from.ensures ∙ c.if-not-stand_from.false) in
+    record {
+      frames = omega arith;
+      inputs = k;
+      left_sums = omega arith;
+      right_sums = omega arith;
+    }
 
 pub returns : goal.returns
 returns c =
     let e = c.add_parts.ensures in
+    let x = c.args in
+    let fits : Fits x.v x.n x.p x.samples.now x.left.now x.right.now = record {
+      frames = omega arith;
+      inputs = room _ _ _ _ _ c.copies_shown.ensures.1 (sym c.stand_from.ensures ∙ c.if-not-stand_from.false);
+      left_sums = omega arith;
+      right_sums = omega arith;
+    } in
     record {
       env = λ _. e.0;
       left_sums = λ _. e.1.on_left;
       right_sums = λ _. e.1.on_right;
-      refused = λ f. absurd (f (fits c.before.before.before.before.before.before.before));
+      refused = λ f. absurd (f fits);
     }

@@ -29,16 +29,6 @@ module _ (left right : List Float) (m : ℕ) (old : List Float) where
   done : (new : List Float) → FitsOut m left right old → new ≡ interleave (take m left) (take m right) → PutAs left right m old new
   done new h e = record { written = λ _. e; refused = λ f. absurd (f h) }
 
--- every test passed
-
-module _ (t : goal.Else-not-fills) where
-  fits : let x = t.args in FitsOut x.m x.false.now x.right.now x.out.now
-  fits = record {
-    left_sums = omega arith;
-    right_sums = omega arith;
-    places = eqb-true _ _ (sym t.fills.ensures ∙ not-false _ t.if-not-fills.false);
-  }
-
 pub returns-then-m-left : goal.returns-then-m-left
 returns-then-m-left c = few-left _ _ _ _ c.if-m-left.true
 
@@ -49,7 +39,17 @@ pub returns-then-not-fills : goal.returns-then-not-fills
 returns-then-not-fills c = other-places _ _ _ _ (sym c.fills.ensures ∙ c.if-not-fills.true)
 
 pub put_pairs-requires : goal.put_pairs-requires
-put_pairs-requires c = fits c.before
+put_pairs-requires c = record {
+      left_sums = omega arith;
+      right_sums = omega arith;
+      places = eqb-true _ _ (sym c.fills.ensures ∙ c.if-not-fills.false);
+    }
 
 pub returns : goal.returns
-returns c = done _ _ _ _ _ (fits c.before.before.before.before) c.put_pairs.ensures
+returns c =
+    let fits : FitsOut c.args.m c.args.left.now c.args.right.now c.args.out.now = record {
+      left_sums = omega arith;
+      right_sums = omega arith;
+      places = eqb-true _ _ (sym c.fills.ensures ∙ c.if-not-fills.false);
+    } in
+    done _ _ _ _ _ fits c.put_pairs.ensures

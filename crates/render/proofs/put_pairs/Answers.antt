@@ -21,7 +21,7 @@ loop-f-preserved c =
       omega arith,
       omega arith,
       simp length-set i.2,
-      put-more c.loop-f.out s.false.now s.right.now c.loop-f.p c.loop-f.f i.1 (omega arith) (omega arith) (omega arith) i.3,
+      put-more c.loop-f.out s.left.now s.right.now c.loop-f.p c.loop-f.f i.1 (omega arith) (omega arith) (omega arith) i.3,
     )
 
 pub returns : goal.returns
