@@ -9,6 +9,8 @@ use lib.Dec.{leb, eqb}
 use lib.Ieee.{Float}
 use lib.ListN.{length, length-map, length-set, length-take}
 use Rattle.lists.specs.Choose.{both, cond-true, cond-false}
+use Rattle.design.specs.declared.PlayMode.{PlayMode}
+use Rattle.design.specs.declared.PlayMode.TheVariants.{Poly, Mono}
 use Rattle.model.specs.Types as M
 use Rattle.model.specs.Changes.{placed, tuned}
 use Rattle.model.specs.Voices.{changed}
@@ -26,6 +28,13 @@ use Rattle.instrument.specs.Calls.{reply_of, refusal_of, reply_to, CallAs, Gives
 use Rattle.instrument.specs.declared.Instrument.{Instrument}
 use Rattle.instrument.specs.declared.Outcome.{Outcome}
 use Rattle.instrument.specs.declared.Reply.{Reply}
+
+-- ---- the play mode
+
+-- what is not Mono is Poly
+pub is-poly : (m : PlayMode) → ((x : Bool) → m ≡ Mono x → ⊥) → m ≡ Poly
+is-poly Poly h = refl
+is-poly (Mono legato) h = absurd (h legato refl)
 
 -- ---- what bars a call
 

@@ -25,7 +25,7 @@ use voice::{CopyChange, Voice, VoiceChange, VoiceTest, new_voice};
 mod mix;
 mod plan;
 
-#[derive(Drop)]
+#[derive(Clone, Copy)]
 pub struct Instrument {
     pub design: InstrumentDesign,
     pub table: Table,
@@ -64,7 +64,7 @@ pub enum Reply {
     Refused(u8),
 }
 
-#[derive(Drop)]
+#[derive(Clone, Copy)]
 pub struct Outcome {
     pub state: Instrument,
     pub reply: Reply,
@@ -78,7 +78,7 @@ pub enum MixReply {
     Refused(u8),
 }
 
-#[derive(Drop)]
+#[derive(Clone, Copy)]
 pub struct MixOutcome {
     pub state: Instrument,
     pub reply: MixReply,
@@ -96,7 +96,7 @@ pub enum Answer {
     Refused(u8),
 }
 
-#[derive(Drop)]
+#[derive(Clone, Copy)]
 pub struct NewInstrument {
     pub reply: DesignReply,
     pub state: Instrument,

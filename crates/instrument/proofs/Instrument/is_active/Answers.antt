@@ -1,0 +1,13 @@
+use mathlib.Core.Path.{sym, ◌∙◌}
+use borrow.Author.Tests.{not-true, not-false}
+use Rattle.instrument.proofs.Queries.{active-refused, active-found}
+use Rattle.instrument.proofs.Sizes.{voices-long}
+use borrow.Author.Rules.{rules}
+use Rattle.instrument.proofs.Instrument.is_active.Goals as goal
+
+pub returns-then-not-well_formed : goal.returns-then-not-well_formed
+returns-then-not-well_formed c = active-refused _ (sym c.well_formed-2.ensures ∙ c.if-not-well_formed.true) _
+
+pub returns : goal.returns
+returns c =
+    active-found c.args.self (sym c.well_formed-2.ensures ∙ c.if-not-well_formed.false) (voices-long c.args.self c.well_formed.0) c.args.handle _ c.find_first-place.ensures

@@ -1,0 +1,10 @@
+use Rattle.instrument.specs.Plans.{wobble_of}
+use Rattle.instrument.proofs.plan.wobble.Goals as goal
+
+pub returns-then-m : goal.returns-then-m
+unfolding wobble_of
+returns-then-m c = simp c.if-m.true
+
+pub returns : goal.returns
+unfolding wobble_of
+returns c = simp c.if-m.false
