@@ -7,28 +7,22 @@ use Rattle.envelope.proofs.all_finite.Goals as goal
 
 pub returns-then-not-is_finite : goal.returns-then-not-is_finite
 unfolding all_finite
-returns-then-not-is_finite c = and-fails _ _ (sym c.is_finite.ensures ∙ not-true _ c.if-not-is_finite.true)
+returns-then-not-is_finite c = and-fails _ _ (sym c.is_finite.ensures ∙ c.if-not-is_finite.true)
 
 pub returns-then-not-is_finite-2 : goal.returns-then-not-is_finite-2
 unfolding all_finite
 returns-then-not-is_finite-2 c =
-    let b = c in
-    and_then _ _ _ (sym b.is_finite.ensures ∙ not-false _ b.if-not-is_finite.false) (and-fails _ _ (sym c.is_finite-2.ensures ∙ not-true _ c.if-not-is_finite-2.true))
+    and_then _ _ _ (sym c.is_finite.ensures ∙ c.if-not-is_finite.false) (and-fails _ _ (sym c.is_finite-2.ensures ∙ c.if-not-is_finite-2.true))
 
 pub returns-then-not-is_finite-3 : goal.returns-then-not-is_finite-3
 unfolding all_finite
 returns-then-not-is_finite-3 c =
-    let b = c in
-    let a = b in
-    and_then _ _ _ (sym a.is_finite.ensures ∙ not-false _ a.if-not-is_finite.false)
-    (and_then _ _ _ (sym b.is_finite-2.ensures ∙ not-false _ b.if-not-is_finite-2.false) (and-fails _ _ (sym c.is_finite-3.ensures ∙ not-true _ c.if-not-is_finite-3.true)))
+    and_then _ _ _ (sym c.is_finite.ensures ∙ c.if-not-is_finite.false)
+    (and_then _ _ _ (sym c.is_finite-2.ensures ∙ c.if-not-is_finite-2.false) (and-fails _ _ (sym c.is_finite-3.ensures ∙ c.if-not-is_finite-3.true)))
 
 pub returns : goal.returns
 unfolding all_finite
 returns c =
-    let d = c in
-    let b = d in
-    let a = b in
-    and_then _ _ _ (sym a.is_finite.ensures ∙ not-false _ a.if-not-is_finite.false)
-    (and_then _ _ _ (sym b.is_finite-2.ensures ∙ not-false _ b.if-not-is_finite-2.false)
-    (and_then _ _ _ (sym d.is_finite-3.ensures ∙ not-false _ d.if-not-is_finite-3.false) c.is_finite-4.ensures))
+    and_then _ _ _ (sym c.is_finite.ensures ∙ c.if-not-is_finite.false)
+    (and_then _ _ _ (sym c.is_finite-2.ensures ∙ c.if-not-is_finite-2.false)
+    (and_then _ _ _ (sym c.is_finite-3.ensures ∙ c.if-not-is_finite-3.false) c.is_finite-4.ensures))

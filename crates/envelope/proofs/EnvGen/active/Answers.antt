@@ -5,8 +5,8 @@ use Rattle.envelope.proofs.EnvGen.active.Goals as goal
 
 pub returns-in-Idle : goal.returns-in-Idle
 unfolding is_active
-returns-in-Idle c = rw c.enum_told-1.given.1
+returns-in-Idle c = rw c.in-Idle.is
 
 pub returns-in_default : goal.returns-in_default
 unfolding is_active
-returns-in_default c = rw (not-idle c.args.self.stage c.in_default.keys2)
+returns-in_default c = rw (not-idle c.args.self.stage c.in_default.not-Idle)

@@ -5,8 +5,8 @@ use Rattle.envelope.proofs.EnvGen.faded.Goals as goal
 
 pub returns-in-Sustain : goal.returns-in-Sustain
 unfolding is_faded
-returns-in-Sustain c = rw c.enum_told-1.given.1
+returns-in-Sustain c = rw c.in-Sustain.is
 
 pub returns-in_default : goal.returns-in_default
 unfolding is_faded
-returns-in_default c = rw (not-sustain c.args.self.stage c.in_default.keys2)
+returns-in_default c = rw (not-sustain c.args.self.stage c.in_default.not-Sustain)

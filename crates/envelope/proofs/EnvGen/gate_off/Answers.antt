@@ -16,8 +16,8 @@ unfolding gated_off
 gated e h = sym (cond-false _ _ _ h)
 
 pub returns-in-Idle : goal.returns-in-Idle
-returns-in-Idle c = idle _ (rw c.enum_told-1.given.1)
+returns-in-Idle c = idle _ (rw c.in-Idle.is)
 
 pub returns : goal.returns
 unfolding at released
-returns c = c.at.ensures ∙ gated _ (not-idle c.args.self.stage c.in_default.keys2)
+returns c = c.at.ensures ∙ gated _ (not-idle c.args.self.stage c.in_default.not-Idle)

@@ -18,17 +18,17 @@ stays e st x h k = ap (λ (t : Stage). at e t x) h ∙ k ∙ within e st h
 
 pub returns-in-Idle : goal.returns-in-Idle
 unfolding at
-returns-in-Idle c = stays _ _ _ c.enum_told-1.given.1 refl
+returns-in-Idle c = stays _ _ _ c.in-Idle.is refl
 
 pub returns-in-Attack : goal.returns-in-Attack
-returns-in-Attack c = c.tick_attack-self.ensures ∙ within _ _ c.enum_told-in-Attack-1.given.1
+returns-in-Attack c = c.tick_attack-self.ensures ∙ within _ _ c.in-Attack.is
 
 pub returns-in-Decay : goal.returns-in-Decay
-returns-in-Decay c = c.tick_decay-self.ensures ∙ within _ _ c.enum_told-in-Decay-1.given.1
+returns-in-Decay c = c.tick_decay-self.ensures ∙ within _ _ c.in-Decay.is
 
 pub returns-in-Sustain : goal.returns-in-Sustain
 unfolding at
-returns-in-Sustain c = stays _ _ _ c.enum_told-in-Sustain-1.given.1 refl
+returns-in-Sustain c = stays _ _ _ c.in-Sustain.is refl
 
 pub returns-in-Release : goal.returns-in-Release
-returns-in-Release c = c.tick_release-self.ensures ∙ within _ _ c.enum_told-in-Release-1.given.1
+returns-in-Release c = c.tick_release-self.ensures ∙ within _ _ c.in-Release.is
