@@ -231,6 +231,7 @@ fn read_design(line: &[u8]) -> DesignRead
 }
 
 // The form whose text the line is.
+#[tactic(auto, using(crate::proofs::Wholes::too_long))]
 pub fn read(line: &[u8]) -> Form
     ensures { FormAs line.now result }
 {

@@ -1,3 +1,2 @@
 pub mod Complete
-pub mod Held
 pub mod Turns

@@ -1,0 +1,7 @@
+use mathlib.Core.Bool.{true≢false}
+use native.Mathlib.Omega.{arith}
+use borrow.Author.Rules.{rules}
+use Rattle.curves.proofs.alone.Goals as goal
+
+pub returns-then-left-lt4 : goal.returns-then-left-lt4
+returns-then-left-lt4 c e = absurd (true≢false e)

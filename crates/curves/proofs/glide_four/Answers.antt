@@ -1,0 +1,23 @@
+use mathlib.Core.Path.{◌≡◌}
+use Prim.Native.Nat.{◌*◌, ◌-◌}
+use native.Mathlib.Omega.{arith}
+use borrow.Author.Rules.{rules}
+use lib.ListN.{length}
+use Rattle.curves.proofs.Rows.{Rows, rows_none, rows_more, rows_whole}
+use Rattle.curves.proofs.glide_four.Goals as goal
+
+pub loop-i-init : goal.loop-i-init
+loop-i-init c = rows_none _ _ _ (rw c.well_formed.0.1.0.1 c.requires)
+
+pub write_four-requires : goal.write_four-requires
+write_four-requires c = omega (arith, c.requires, c.loop-i.invariant.size)
+
+pub loop-i-preserved : goal.loop-i-preserved
+loop-i-preserved c =
+    rows_more _ _ _ (rw c.well_formed.0.1.0.1 c.requires) (omega arith) c.step_four-later.ensures c.write_four.ensures c.loop-i.invariant
+
+pub shape_of-curve : goal.shape_of-curve
+shape_of-curve c = c.loop-i.invariant.size
+
+pub returns : goal.returns
+returns c = rows_whole _ _ _ (rw c.well_formed.0.1.0.1 c.requires) (let h = c.loop-i.invariant.short in omega arith) c.loop-i.invariant

@@ -1,0 +1,15 @@
+use mathlib.Core.Path.{ap, sym, ◌∙◌}
+use borrow.Author.Rules.{rules}
+use borrow.Author.Tests.{eqb-true, eq-eqb}
+use denote.Floats.{passes}
+use lib.Ieee.{binary32, of_bits, to_bits}
+use lib.Ieee.Bits.{of_bits-to_bits}
+use Rattle.curves.proofs.same.Goals as goal
+
+pub returns : goal.returns
+returns c =
+    let a = of_bits-to_bits binary32 _ (passes _ c.well_formed.0.1) in
+    let b = of_bits-to_bits binary32 _ (passes _ c.well_formed.1.0.1) in
+    let p = c.to_bits.ensures in
+    let q = c.to_bits-2.ensures in
+    (λ e. sym a ∙ ap (of_bits binary32) (sym p ∙ eqb-true _ _ e ∙ q) ∙ b, λ e. eq-eqb _ _ (p ∙ ap (to_bits binary32) e ∙ sym q))

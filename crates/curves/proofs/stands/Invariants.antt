@@ -1,0 +1,23 @@
+use mathlib.Core.Path.{◌≡◌, refl}
+use mathlib.Core.List.{map}
+use Prim.Native.Nat.{ℕ, ◌≤◌, ◌<◌, ◌-◌}
+use native.Mathlib.Omega.{arith}
+use borrow.Author.Rules.{rules}
+use borrow.Author.Tests.{not-true, not-false}
+use lib.ListN.{length, take, get_or}
+use lib.Seq.{take_all}
+use Rattle.lists.specs.Choose.{clash}
+use Rattle.stream.specs.Pitch.{glided}
+use Rattle.voice.specs.declared.Voice.{Voice}
+use Rattle.voice.specs.View.{shown, no_copy}
+use Rattle.curves.proofs.Standing.{copy_at, stands-more, stood, all-stand, one-moves}
+use Rattle.curves.proofs.stands.Given as goal
+
+abbrev Stand : Voice → ℕ → Type 0
+Stand v j = (n : ℕ) → map (glided n) (take j (shown v).copies) ≡ take j (shown v).copies
+
+abbrev pub invariant-loop-j : goal.invariant-loop-j
+invariant-loop-j l = (l.j ≤ l.n) × Stand l.v l.j
+
+abbrev pub decreases-loop-j : goal.decreases-loop-j
+decreases-loop-j l = l.n - l.j

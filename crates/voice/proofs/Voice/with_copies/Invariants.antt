@@ -1,0 +1,17 @@
+use mathlib.Core.Path.{◌≡◌, ap, ◌∙◌}
+use Prim.Native.Nat.{◌≤◌, ◌-◌, min}
+use native.Mathlib.Omega.{arith}
+use borrow.Author.Rules.{rules}
+use lib.ListN.{length-take}
+use Rattle.lists.specs.Prefix.{mapped, mapped-none}
+use Rattle.voice.specs.View.{shown}
+use Rattle.voice.specs.Changes.{copy_changed}
+use Rattle.voice.proofs.Sizes.{copies-long}
+use Rattle.voice.proofs.Copied.{copied, copied_seen, copied_more}
+use Rattle.voice.proofs.Voice.with_copies.Given as goal
+
+abbrev pub invariant-loop-j : goal.invariant-loop-j
+invariant-loop-j l = (l.j ≤ l.n) × (l.n ≤ 8) × (l.self ≡ copied l.initial.self (mapped (copy_changed l.change) l.j l.initial.self.copies))
+
+abbrev pub decreases-loop-j : goal.decreases-loop-j
+decreases-loop-j l = l.n - l.j
