@@ -57,15 +57,15 @@ def main():
         turn[name] = name + "_lem"
     print("met:", sorted(meets))
 
-    def spell(text):
-        return TOKEN.sub(lambda m: turn.get(m[0], m[0]), text)
+    def spell(text, kept=frozenset()):
+        return TOKEN.sub(lambda m: m[0] if m[0] in kept else turn.get(m[0], m[0]), text)
 
     for path, (kind, text) in files.items():
         if kind == "rt":
             parts = STRING.split(text)
-            new = "".join(p if k % 2 else spell(p) for k, p in enumerate(parts))
+            new = "".join(p if k % 2 else spell(p, meets) for k, p in enumerate(parts))
         else:
-            new = spell(text)
+            new = spell(text, meets if kind == "edit" else frozenset())
         if new != text:
             path.write_text(new, encoding="utf-8")
     print(len(turn), "names")

@@ -84,7 +84,7 @@ module _ (side : UnisonCopy → Float) (n a m : ℕ) (h : a + m ≤ n) where
   voice-part trem z v =
       let es = levels v.gain trem n v.env in
       ap (λ (y : Mixing). y.sums) (fold-see (cut a m) (side_copy side n es) (part_copy side n a m (take m (drop a es))) (copy-part es) z v.copies)
-      ∙ rw (levels-part v.gain trem a m n v.env h)
+      ∙ ap (λ (l : List Float). (fold (part_copy side n a m l) (cut a m z) v.copies).sums) (levels-part v.gain trem a m n v.env h)
 
 -- ---- one side of one voice
 

@@ -252,7 +252,7 @@ pub fn put(left: &[f32], right: &[f32], m: usize, out: &mut [f32])
 }
 
 // Whether a voice goes on, by its envelope: neither run down nor faded.
-pub fn goes_on_lem(env: EnvGen) -> bool
+pub fn goes_on(env: EnvGen) -> bool
     ensures { result ≡ goes_on env }
 {
     if !env.active() {

@@ -21,7 +21,7 @@ mod check;
 mod mix;
 mod plan;
 
-#[derive(Drop)]
+#[derive(Clone, Copy)]
 pub struct Table {
     pub voices: [Voice; 64],
     // How many of them are live, in order of birth.
@@ -29,7 +29,7 @@ pub struct Table {
 }
 
 // A table with a voice more, and the handles of the voices killed and taken out for it, 0 for none.
-#[derive(Drop)]
+#[derive(Clone, Copy)]
 pub struct Added {
     pub table: Table,
     pub killed: u64,

@@ -41,7 +41,7 @@ impl Table {
             let env = render::add_voice(v, n, trem, samples, at, left, right);
             at = smaller(at + n * v.copies_shown(), samples.len());
             self.voices[i] = render::with_env(self.voices[i], env);
-            if !render::goes_on_lem(env) {
+            if !render::goes_on(env) {
                 report(v.handle, gone, ended);
                 gone += 1;
             } else if 0 < gone {

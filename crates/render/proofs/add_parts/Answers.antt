@@ -1,0 +1,53 @@
+use mathlib.Core.Path.{◌≡◌, refl, ap, sym, ◌∙◌}
+use Prim.Native.Nat.{◌+◌, ◌≤◌, ◌-◌, min}
+use native.Mathlib.Omega.{arith}
+use borrow.Author.Rules.{rules}
+use lib.ListN.{take, drop}
+use Rattle.levels.proofs.Frames.{aged-add}
+use Rattle.model.specs.Voices.{aged}
+use Rattle.model.specs.Mix.{levels, on_left, on_right}
+use Rattle.voice.specs.View.{shown}
+use Rattle.render.proofs.Parts.{Added, added_none, added-room, added_more, added-all}
+use Rattle.render.proofs.add_parts.Goals as goal
+
+pub loop-a-init : goal.loop-a-init
+unfolding aged
+loop-a-init c = (search rules, refl, added_none _ _ _ _ _ _, added_none _ _ _ _ _ _)
+
+pub add_copies-requires : goal.add_copies-requires
+add_copies-requires c =
+    let i = c.loop-a.invariant in
+    let fits : c.loop-a.a + c.smaller-m.result ≤ c.args.n = omega arith in (
+      c.requires.inputs,
+      fits,
+      omega arith,
+      c.fill-filled.ensures.size,
+      added-room _ _ _ _ _ _ c.loop-a.a c.smaller-m.result _ fits c.requires.left_sums i.2,
+      added-room _ _ _ _ _ _ c.loop-a.a c.smaller-m.result _ fits c.requires.right_sums i.3,
+    )
+
+pub loop-a-preserved : goal.loop-a-preserved
+unfolding shown
+loop-a-preserved c =
+    let x = c.args in
+    let a = c.loop-a.a in
+    let m = c.smaller-m.result in
+    let i = c.loop-a.invariant in
+    let e = c.add_copies.ensures in
+    let all : min m 64 ≡ m = omega arith in
+    let fits : a + m ≤ x.n = omega arith in
+    let env : c.fill-filled.result.env ≡ aged (a + m) x.v.env = rw all at c.fill-filled.ensures.env ∙ ap (aged m) i.1 ∙ sym (aged-add a m x.v.env) in
+    let es : take m c.fill-filled.result.levels ≡ levels x.v.gain x.trem m (aged a x.v.env) = rw (all, i.1) at c.fill-filled.ensures.numbers in (
+      fits,
+      env,
+      added_more on_left x.n x.trem (drop x.p x.samples.now) (shown x.v) x.left.now
+          a m _ c.loop-a.left _ fits c.requires.left_sums es e.on_left (omega (arith, c.add_copies.auto)) i.2,
+      added_more on_right x.n x.trem (drop x.p x.samples.now) (shown x.v) x.right.now
+          a m _ c.loop-a.right _ fits c.requires.right_sums es e.on_right (omega (arith, c.add_copies.auto)) i.3,
+    )
+
+pub returns : goal.returns
+returns c =
+    let i = c.loop-a.invariant in
+    let e : c.loop-a.a ≡ c.args.n = omega arith in
+    (rw e at i.1, record { on_left = added-all _ _ _ _ _ _ _ _ e i.2; on_right = added-all _ _ _ _ _ _ _ _ e i.3 })

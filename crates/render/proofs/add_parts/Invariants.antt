@@ -1,0 +1,21 @@
+use mathlib.Core.Path.{◌≡◌, refl, ap, sym, ◌∙◌}
+use Prim.Native.Nat.{◌+◌, ◌≤◌, ◌-◌, min}
+use native.Mathlib.Omega.{arith}
+use borrow.Author.Rules.{rules}
+use lib.ListN.{take, drop}
+use Rattle.levels.proofs.Frames.{aged-add}
+use Rattle.model.specs.Voices.{aged}
+use Rattle.model.specs.Mix.{levels, on_left, on_right}
+use Rattle.voice.specs.View.{shown}
+use Rattle.render.proofs.Parts.{Added, added_none, added-room, added_more, added-all}
+use Rattle.render.proofs.add_parts.Given as goal
+
+abbrev pub invariant-loop-a : goal.invariant-loop-a
+invariant-loop-a l =
+    (l.a ≤ l.n)
+    × (l.e ≡ aged l.a l.v.env)
+    × Added on_left l.n l.trem (drop l.p l.samples) (shown l.v) l.initial.left l.a l.left
+    × Added on_right l.n l.trem (drop l.p l.samples) (shown l.v) l.initial.right l.a l.right
+
+abbrev pub decreases-loop-a : goal.decreases-loop-a
+decreases-loop-a l = l.n - l.a

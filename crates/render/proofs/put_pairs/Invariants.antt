@@ -1,0 +1,15 @@
+use mathlib.Core.Path.{◌≡◌, refl, sym, ◌∙◌}
+use Prim.Native.Nat.{◌≤◌, ◌-◌, ◌+◌}
+use native.Mathlib.Omega.{arith}
+use borrow.Author.Rules.{rules}
+use lib.ListN.{length-set, length, take}
+use lib.Seq.{take_all}
+use Rattle.model.specs.Mix.{interleave}
+use Rattle.render.proofs.Turns.{put-more}
+use Rattle.render.proofs.put_pairs.Given as goal
+
+abbrev pub invariant-loop-f : goal.invariant-loop-f
+invariant-loop-f l = (l.f ≤ l.m) × (l.p ≡ l.f + l.f) × (length l.out ≡ length l.initial.out) × (take (l.f + l.f) l.out ≡ interleave (take l.f l.left) (take l.f l.right))
+
+abbrev pub decreases-loop-f : goal.decreases-loop-f
+decreases-loop-f l = l.m - l.f

@@ -1,0 +1,17 @@
+use mathlib.Core.Path.{◌≡◌, sym, ◌∙◌}
+use Prim.Native.Nat.{◌≤◌, ◌-◌, ◌+◌}
+use lib.ListN.{drop}
+use Rattle.lists.specs.Places.{find_at}
+use Rattle.voice.specs.Changes.{test_of}
+use Rattle.table.specs.View.{voices_in}
+use Rattle.table.proofs.Searches.{first-here, first-later, first-none}
+use Rattle.table.proofs.Sizes.{voices-long}
+use borrow.Author.Rules.{rules}
+use native.Mathlib.Omega.{arith}
+use Rattle.table.proofs.Table.find_first.Given as goal
+
+abbrev pub invariant-loop-i : goal.invariant-loop-i
+invariant-loop-i l = (l.i ≤ l.end) × (find_at (test_of l.test) (voices_in l.self) ≡ l.i + find_at (test_of l.test) (drop l.i (voices_in l.self)))
+
+abbrev pub decreases-loop-i : goal.decreases-loop-i
+decreases-loop-i l = l.end - l.i

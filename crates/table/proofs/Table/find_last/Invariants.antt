@@ -1,0 +1,17 @@
+use mathlib.Core.Path.{◌≡◌}
+use Prim.Native.Nat.{◌≤◌, ◌-◌, ◌+◌}
+use lib.ListN.{drop}
+use Rattle.lists.specs.Count.{count}
+use Rattle.voice.specs.Changes.{test_of}
+use Rattle.table.specs.View.{voices_in}
+use Rattle.table.proofs.Searches.{last-here, last-before, last-start, last-nowhere}
+use Rattle.table.proofs.Sizes.{voices-long}
+use borrow.Author.Rules.{rules}
+use native.Mathlib.Omega.{arith}
+use Rattle.table.proofs.Table.find_last.Given as goal
+
+abbrev pub invariant-loop-i : goal.invariant-loop-i
+invariant-loop-i l = (l.i ≤ l.end) × (count (test_of l.test) (drop l.i (voices_in l.self)) ≡ 0)
+
+abbrev pub decreases-loop-i : goal.decreases-loop-i
+decreases-loop-i l = l.i

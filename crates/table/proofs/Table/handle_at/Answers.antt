@@ -1,0 +1,15 @@
+use Rattle.table.proofs.Searches.{handle-here, handle-past}
+use Rattle.table.proofs.Sizes.{voices-long}
+use borrow.Author.Rules.{rules}
+use native.Mathlib.Omega.{arith}
+use Rattle.table.proofs.Table.handle_at.Goals as goal
+
+pub returns-then-place-smaller : goal.returns-then-place-smaller
+returns-then-place-smaller c =
+    let t = c.args.self in
+    handle-here t (voices-long t c.well_formed.0) _ (omega arith)
+
+pub returns : goal.returns
+returns c =
+    let t = c.args.self in
+    handle-past t (voices-long t c.well_formed.0) _ (omega arith)

@@ -1,0 +1,7 @@
+use Rattle.model.specs.Voices.{quietest}
+use borrow.Author.Rules.{rules}
+use Rattle.table.proofs.Table.quietest.Goals as goal
+
+pub returns : goal.returns
+unfolding quietest
+returns c = c.quietest_by.ensures

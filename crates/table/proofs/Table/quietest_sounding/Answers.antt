@@ -1,0 +1,7 @@
+use Rattle.model.specs.Voices.{quietest_sounding}
+use borrow.Author.Rules.{rules}
+use Rattle.table.proofs.Table.quietest_sounding.Goals as goal
+
+pub returns : goal.returns
+unfolding quietest_sounding
+returns c = c.quietest_by.ensures

@@ -1,0 +1,8 @@
+use Rattle.model.specs.Voices.{quieter}
+use Rattle.voice.specs.View.{shown}
+use borrow.Author.Rules.{rules}
+use Rattle.table.proofs.quieter.Goals as goal
+
+pub returns : goal.returns
+unfolding quieter shown
+returns c = c.total_below.ensures
