@@ -11,8 +11,9 @@
 
 #![tactic(auto)]
 
-use libc::{STDIN_FILENO, STDOUT_FILENO};
 use replay::Session;
+use std::io;
+use std::io::Read;
 
 mod made;
 
@@ -34,10 +35,11 @@ fn begin() -> Reading {
     }
 }
 
-fn print(out: &[u8], count: usize) {
+fn print(rt: &impl Print, out: &[u8], count: usize) -> io::Result<()> {
     if count <= out.len() {
-        io::write_all(STDOUT_FILENO, &out[..count]);
+        rt.write_all(&out[..count])?;
     }
+    Ok(())
 }
 
 fn begins(text: &[u8], with: &[u8]) -> bool {
@@ -46,27 +48,28 @@ fn begins(text: &[u8], with: &[u8]) -> bool {
 }
 
 // A refused call must give the state back that it was given; a refused start need not.
-fn check(s: Session, t: Session, line: &[u8], out: &[u8]) {
+fn check(rt: &impl Print, s: Session, t: Session, line: &[u8], out: &[u8]) -> io::Result<()> {
     if begins(line, b"(design") {
-        return;
+        return Ok(());
     }
     if !begins(out, b"(refused ") {
-        return;
+        return Ok(());
     }
     if !equal_states::equal(s.instrument, t.instrument) {
-        io::write_all(STDOUT_FILENO, b"(changed)\n");
+        rt.write_all(b"(changed)\n")?;
     }
+    Ok(())
 }
 
-fn answer(s: Session, line: &[u8]) -> Session {
+fn answer(rt: &impl Print, s: Session, line: &[u8]) -> io::Result<Session> {
     let mut samples = [0.0f32; 160];
     let mut stereo = [0.0f32; 160];
     let mut out = [0u8; 4096];
     let a = s.answer(line, &mut samples, &mut stereo, &mut out, 0);
     let t = a.session;
-    print(&out, a.at);
-    check(s, t, line, &out);
-    t
+    print(rt, &out, a.at)?;
+    check(rt, s, t, line, &out)?;
+    Ok(t)
 }
 
 // The line behind the dash.
@@ -79,34 +82,34 @@ fn quiet(s: Session, line: &[u8]) -> Session {
     a.session
 }
 
-fn case(line: &[u8]) {
-    io::write_all(STDOUT_FILENO, line);
-    io::write_all(STDOUT_FILENO, b"\n");
+fn case(rt: &impl Print, line: &[u8]) -> io::Result<()> {
+    rt.write_all(line)?;
+    rt.write_all(b"\n")
 }
 
-fn line(mut s: Session, line: &[u8]) -> Session {
+fn line(rt: &impl Print, mut s: Session, line: &[u8]) -> io::Result<Session> {
     if begins(line, b"(case ") {
-        case(line);
-        return s;
+        case(rt, line)?;
+        return Ok(s);
     }
     if begins(line, b"-") {
-        return quiet(s, line);
+        return Ok(quiet(s, line));
     }
     let form = made::read(line);
     if form.number == made::NONE {
-        return answer(s, line);
+        return answer(rt, s, line);
     }
     let state = made::made(s.instrument, form);
     s.instrument = state;
-    s
+    Ok(s)
 }
 
 // A line feed ends a line.
-fn end_line(s: Session, text: &[u8], len: usize) -> Session {
+fn end_line(rt: &impl Print, s: Session, text: &[u8], len: usize) -> io::Result<Session> {
     if len <= text.len() {
-        return line(s, &text[..len]);
+        return line(rt, s, &text[..len]);
     }
-    s
+    Ok(s)
 }
 
 // The length of the line after a byte.
@@ -121,7 +124,7 @@ fn keep(byte: u8, line: &mut [u8], len: usize) -> usize {
     len
 }
 
-fn take_all(chunk: &[u8], r: Reading) -> Reading {
+fn take_all(rt: &impl Print, chunk: &[u8], r: Reading) -> io::Result<Reading> {
     let mut session = r.session;
     let mut line = r.line;
     let mut len = r.len;
@@ -129,27 +132,26 @@ fn take_all(chunk: &[u8], r: Reading) -> Reading {
     while i < chunk.len() {
         let byte = chunk[i];
         if byte == b'\n' {
-            session = end_line(session, &line, len);
+            session = end_line(rt, session, &line, len)?;
         }
         len = keep(byte, &mut line, len);
         i += 1;
     }
-    Reading { session, line, len }
+    Ok(Reading { session, line, len })
 }
 
-// Nothing says that the input ends, so the turns are counted down.
-fn main() {
-    let mut buffer = io::buffer();
+// Nothing says that the input ends, so the turns are counted.
+fn main(rt: HostRuntime) -> io::Result<()> {
+    let mut input = rt.stdin();
+    let mut buffer = [0u8; 4096];
     let mut r = begin();
-    let mut turns = u64::MAX;
-    while turns > 0 {
-        let got = libc::read(STDIN_FILENO, &mut buffer);
-        let count = io::count(got, &buffer);
+    for _ in 0..u64::MAX {
+        let count = input.read(&mut buffer)?;
         if count == 0 {
             break;
         }
-        let next = take_all(&buffer[..count], r);
+        let next = take_all(&rt, &buffer[..count], r)?;
         r = next;
-        turns -= 1;
     }
+    Ok(())
 }

@@ -7,6 +7,8 @@ mod words;
 
 use design::{Adsr, DesignReply, InstrumentDesign, Modulation, PlayMode};
 use envelope::{EnvGen, EnvReply, Stage};
+use std::io;
+use std::io::{ErrorKind, Read};
 use stream::{Cutoff, UnisonCopy};
 use words::{field, float, say};
 
@@ -58,15 +60,16 @@ fn stage_number(e: EnvGen) -> u32 {
 }
 
 // The first word is a reply's number or a sum.
-fn say_env(letter: u8, first: u32, e: EnvGen) {
+fn say_env(rt: &impl Print, letter: u8, first: u32, e: EnvGen) -> io::Result<()> {
     let level = float32::to_bits(e.level());
     let from = float32::to_bits(e.rel_from);
     let faded = flag(e.faded());
     let active = flag(e.active());
     say(
+        rt,
         letter,
         [first, stage_number(e), level, from, faded, active, 0, 0],
-    );
+    )
 }
 
 // Whether a cutoff was set, and which.
@@ -87,7 +90,7 @@ fn cut_of(c: UnisonCopy) -> Cut {
     }
 }
 
-fn say_copy(letter: u8, c: UnisonCopy) {
+fn say_copy(rt: &impl Print, letter: u8, c: UnisonCopy) -> io::Result<()> {
     let l = float32::to_bits(c.l);
     let r = float32::to_bits(c.r);
     let pitch = float32::to_bits(c.pitch);
@@ -96,19 +99,20 @@ fn say_copy(letter: u8, c: UnisonCopy) {
     let bend = float32::to_bits(c.bend);
     let cut = cut_of(c);
     say(
+        rt,
         letter,
         [l, r, pitch, target, glide, bend, cut.set, cut.bits],
-    );
+    )
 }
 
 // N: the frequency of a note.
-fn note_line(s: &[u8]) {
+fn note_line(rt: &impl Print, s: &[u8]) -> io::Result<()> {
     let n = note::Note((field(s, 0) % 256) as u8);
-    say(b'N', [float32::to_bits(n.freq()), 0, 0, 0, 0, 0, 0, 0]);
+    say(rt, b'N', [float32::to_bits(n.freq()), 0, 0, 0, 0, 0, 0, 0])
 }
 
 // X: what float32 makes of two floats.
-fn float_line(s: &[u8]) {
+fn float_line(rt: &impl Print, s: &[u8]) -> io::Result<()> {
     let a = float(s, 0);
     let b = float(s, 1);
     let fract = float32::to_bits(float32::fract(a));
@@ -119,7 +123,7 @@ fn float_line(s: &[u8]) {
     let pan = float32::to_bits(float32::clamp(a, -1.0, 1.0));
     let nan = flag(float32::is_nan(a));
     let finite = flag(float32::is_finite(a));
-    say(b'X', [fract, below, max, min, level, pan, nan, finite]);
+    say(rt, b'X', [fract, below, max, min, level, pan, nan, finite])
 }
 
 fn env_number(r: EnvReply) -> u32 {
@@ -130,7 +134,7 @@ fn env_number(r: EnvReply) -> u32 {
 }
 
 // E: a new envelope of a, d, s, r and a rate.
-fn env_line(leaf: Leaf, s: &[u8]) -> Leaf {
+fn env_line(rt: &impl Print, leaf: Leaf, s: &[u8]) -> io::Result<Leaf> {
     let amp = Adsr {
         a: float(s, 0),
         d: float(s, 1),
@@ -140,15 +144,15 @@ fn env_line(leaf: Leaf, s: &[u8]) -> Leaf {
     let new = EnvGen::new(amp.a, amp.d, amp.s, amp.r, field(s, 4));
     let env = new.env;
     let reply = new.reply;
-    say_env(b'E', env_number(reply), env);
+    say_env(rt, b'E', env_number(reply), env)?;
     let copy = leaf.copy;
     let modulation = leaf.modulation;
-    Leaf {
+    Ok(Leaf {
         env,
         copy,
         amp,
         modulation,
-    }
+    })
 }
 
 fn gated(e: EnvGen, kind: u32) -> EnvGen {
@@ -162,12 +166,12 @@ fn gated(e: EnvGen, kind: u32) -> EnvGen {
 }
 
 // G: gate_on, gate_off or kill.
-fn gate_line(mut leaf: Leaf, s: &[u8]) -> Leaf {
+fn gate_line(rt: &impl Print, mut leaf: Leaf, s: &[u8]) -> io::Result<Leaf> {
     let before = leaf.env;
     let e = gated(before, field(s, 0));
-    say_env(b'G', 0, e);
+    say_env(rt, b'G', 0, e)?;
     leaf.env = e;
-    leaf
+    Ok(leaf)
 }
 
 #[derive(Clone, Copy)]
@@ -194,24 +198,24 @@ fn ticks(e: EnvGen, n: u32) -> Ticked {
 }
 
 // T: that many ticks.
-fn tick_line(mut leaf: Leaf, s: &[u8]) -> Leaf {
+fn tick_line(rt: &impl Print, mut leaf: Leaf, s: &[u8]) -> io::Result<Leaf> {
     let before = leaf.env;
     let t = ticks(before, field(s, 0));
     let e = t.env;
-    say_env(b'T', t.sum, e);
+    say_env(rt, b'T', t.sum, e)?;
     leaf.env = e;
-    leaf
+    Ok(leaf)
 }
 
 // C: copy k of n at a width, under a bend and a brightness.
-fn copy_line(mut leaf: Leaf, s: &[u8]) -> Leaf {
+fn copy_line(rt: &impl Print, mut leaf: Leaf, s: &[u8]) -> io::Result<Leaf> {
     let k = (field(s, 0) % 256) as u8;
     let n = (field(s, 1) % 256) as u8;
     let new = UnisonCopy::new(k, n, float(s, 2));
     let c = new.catch_up(float(s, 3), float(s, 4));
-    say_copy(b'C', c);
+    say_copy(rt, b'C', c)?;
     leaf.copy = c;
-    leaf
+    Ok(leaf)
 }
 
 // P: glide_pitch. B: set_bend. F: set_cutoff.
@@ -225,12 +229,12 @@ fn pitched(c: UnisonCopy, letter: u8, s: &[u8]) -> UnisonCopy {
     c.set_cutoff(float(s, 0))
 }
 
-fn pitch_line(mut leaf: Leaf, letter: u8, s: &[u8]) -> Leaf {
+fn pitch_line(rt: &impl Print, mut leaf: Leaf, letter: u8, s: &[u8]) -> io::Result<Leaf> {
     let before = leaf.copy;
     let c = pitched(before, letter, s);
-    say_copy(letter, c);
+    say_copy(rt, letter, c)?;
     leaf.copy = c;
-    leaf
+    Ok(leaf)
 }
 
 // Number `at` of a curve, and 0 behind its end.
@@ -242,9 +246,9 @@ fn number(curve: &[f32], at: usize) -> u32 {
     }
 }
 
-fn say_eight(curve: &[f32], at: usize) {
+fn say_eight(rt: &impl Print, curve: &[f32], at: usize) -> io::Result<()> {
     if at >= curve.len() {
-        return;
+        return Ok(());
     }
     let words = [
         number(curve, at),
@@ -256,43 +260,49 @@ fn say_eight(curve: &[f32], at: usize) {
         number(curve, at + 6),
         number(curve, at + 7),
     ];
-    say(b'l', words);
+    say(rt, b'l', words)
 }
 
-fn say_curve(curve: &[f32]) {
+fn say_curve(rt: &impl Print, curve: &[f32]) -> io::Result<()> {
     let mut at: usize = 0;
     while at < curve.len() {
-        say_eight(curve, at);
+        say_eight(rt, curve, at)?;
         at += 8;
     }
+    Ok(())
 }
 
 // Glides over the whole slice and says every number.
-fn glided(c: UnisonCopy, curve: &mut [f32]) -> UnisonCopy {
+fn glided(rt: &impl Print, c: UnisonCopy, curve: &mut [f32]) -> io::Result<UnisonCopy> {
     let after = c.glide_block(curve);
-    say_curve(curve);
-    after
+    say_curve(rt, curve)?;
+    Ok(after)
 }
 
-fn glided_part(c: UnisonCopy, curve: &mut [f32], n: usize) -> UnisonCopy {
+fn glided_part(
+    rt: &impl Print,
+    c: UnisonCopy,
+    curve: &mut [f32],
+    n: usize,
+) -> io::Result<UnisonCopy> {
     if n > curve.len() {
-        return c;
+        return Ok(c);
     }
-    glided(c, &mut curve[..n])
+    glided(rt, c, &mut curve[..n])
 }
 
 // L: glide_block of that many frames, 1,024 at most.
-fn glide_line(mut leaf: Leaf, s: &[u8]) -> Leaf {
+fn glide_line(rt: &impl Print, mut leaf: Leaf, s: &[u8]) -> io::Result<Leaf> {
     let mut curve = [0f32; 1024];
     let before = leaf.copy;
-    let c = glided_part(before, &mut curve, field(s, 0) as usize);
-    say_copy(b'L', c);
+    let c = glided_part(rt, before, &mut curve, field(s, 0) as usize)?;
+    say_copy(rt, b'L', c)?;
     leaf.copy = c;
-    leaf
+    Ok(leaf)
 }
 
 // M: whether six settings modulate.
-fn modulation_line(mut leaf: Leaf, s: &[u8]) -> Leaf {
+fn modulation_line(rt: &impl Print, mut leaf: Leaf, s: &[u8]) -> io::Result<Leaf> {
     let m = Modulation {
         vibrato_rate: float(s, 0),
         vibrato_cents: float(s, 1),
@@ -301,9 +311,9 @@ fn modulation_line(mut leaf: Leaf, s: &[u8]) -> Leaf {
         filter_rate: float(s, 4),
         filter_octaves: float(s, 5),
     };
-    say(b'M', [flag(m.is_active()), 0, 0, 0, 0, 0, 0, 0]);
+    say(rt, b'M', [flag(m.is_active()), 0, 0, 0, 0, 0, 0, 0])?;
     leaf.modulation = m;
-    leaf
+    Ok(leaf)
 }
 
 fn design_number(r: DesignReply) -> u32 {
@@ -314,7 +324,7 @@ fn design_number(r: DesignReply) -> u32 {
 }
 
 // D: whether a design of a rate, max, unison, width and glide is accepted, with the last amp and modulation.
-fn design_line(leaf: Leaf, s: &[u8]) {
+fn design_line(rt: &impl Print, leaf: Leaf, s: &[u8]) -> io::Result<()> {
     let amp = leaf.amp;
     let modulation = leaf.modulation;
     let d = InstrumentDesign {
@@ -328,33 +338,34 @@ fn design_line(leaf: Leaf, s: &[u8]) {
         modulation,
     };
     say(
+        rt,
         b'D',
         [design_number(d.accepted()), d.copies(), 0, 0, 0, 0, 0, 0],
-    );
+    )
 }
 
-fn step(leaf: Leaf, letter: u8, s: &[u8]) -> Leaf {
+fn step(rt: &impl Print, leaf: Leaf, letter: u8, s: &[u8]) -> io::Result<Leaf> {
     match letter {
-        b'E' => env_line(leaf, s),
-        b'G' => gate_line(leaf, s),
-        b'T' => tick_line(leaf, s),
-        b'C' => copy_line(leaf, s),
-        b'P' | b'B' | b'F' => pitch_line(leaf, letter, s),
-        b'L' => glide_line(leaf, s),
-        b'M' => modulation_line(leaf, s),
+        b'E' => env_line(rt, leaf, s),
+        b'G' => gate_line(rt, leaf, s),
+        b'T' => tick_line(rt, leaf, s),
+        b'C' => copy_line(rt, leaf, s),
+        b'P' | b'B' | b'F' => pitch_line(rt, leaf, letter, s),
+        b'L' => glide_line(rt, leaf, s),
+        b'M' => modulation_line(rt, leaf, s),
         b'D' => {
-            design_line(leaf, s);
-            leaf
+            design_line(rt, leaf, s)?;
+            Ok(leaf)
         }
         b'N' => {
-            note_line(s);
-            leaf
+            note_line(rt, s)?;
+            Ok(leaf)
         }
         b'X' => {
-            float_line(s);
-            leaf
+            float_line(rt, s)?;
+            Ok(leaf)
         }
-        _ => leaf,
+        _ => Ok(leaf),
     }
 }
 
@@ -365,30 +376,33 @@ struct Answered {
 }
 
 // Reads a line and answers it; a short one ends the run.
-fn turn(leaf: Leaf) -> Answered {
+fn turn(rt: &impl Print, input: &mut impl Read, leaf: Leaf) -> io::Result<Answered> {
     let mut line = [0u8; 65];
-    if io::read_full(0, &mut line) < 65 {
-        return Answered { leaf, more: false };
+    if let Err(e) = input.read_exact(&mut line) {
+        if e.kind() == ErrorKind::UnexpectedEof {
+            return Ok(Answered { leaf, more: false });
+        }
+        return Err(e);
     }
-    let after = step(leaf, line[0], &line);
-    Answered {
+    let after = step(rt, leaf, line[0], &line)?;
+    Ok(Answered {
         leaf: after,
         more: true,
-    }
+    })
 }
 
-// A proved loop has to end, and nothing says that the input does: it counts down from what no run uses up.
-fn main() {
+// A proved loop has to end, and nothing says that the input does: it counts up to what no run reaches.
+fn main(rt: HostRuntime) -> io::Result<()> {
+    let mut input = rt.stdin();
     let mut now = Answered {
         leaf: start(),
         more: true,
     };
-    let mut turns = u64::MAX;
-    while turns > 0 {
+    for _ in 0..u64::MAX {
         if !now.more {
-            return;
+            break;
         }
-        now = turn(now.leaf);
-        turns -= 1;
+        now = turn(&rt, &mut input, now.leaf)?;
     }
+    Ok(())
 }

@@ -2,6 +2,8 @@
 
 ghost use Rattle.std.specs.Prelude.{◌<◌};
 
+use std::io;
+
 // The value of a capital hexadecimal digit, and 0 for any other byte.
 fn digit(b: u8) -> u32
     ensures { result < 16 }
@@ -83,15 +85,15 @@ fn put_words(out: &mut [u8; 74], words: [u32; 8]) {
     }
 }
 
-fn write_line(out: &[u8; 74]) {
-    io::write_all(1, out);
+fn write_line(rt: &impl Print, out: &[u8; 74]) -> io::Result<()> {
+    rt.write_all(out)
 }
 
 // Writes a line: a letter and eight words.
-pub fn say(letter: u8, words: [u32; 8]) {
+pub fn say(rt: &impl Print, letter: u8, words: [u32; 8]) -> io::Result<()> {
     let mut out = [b' '; 74];
     out[0] = letter;
     out[73] = b'\n';
     put_words(&mut out, words);
-    write_line(&out);
+    write_line(rt, &out)
 }

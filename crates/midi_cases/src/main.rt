@@ -2,92 +2,94 @@
 
 #![tactic(auto)]
 
-use libc::{STDIN_FILENO, STDOUT_FILENO};
 use midi::Cursor;
+use std::io;
+use std::io::Read;
 
 mod parse;
 mod show;
 
 // Each event takes a byte of at most 100, so the count is never used up.
-fn steps(stream: &[u8], from: Cursor) {
+fn steps(rt: &impl Print, stream: &[u8], from: Cursor) -> io::Result<()> {
     let mut cursor = from;
     let mut turns: usize = 101;
     while turns > 0 {
         let outcome = midi::step(stream, cursor);
         let answer = outcome.answer;
         cursor = outcome.cursor;
-        if show::answer(answer, cursor) {
-            return;
+        if show::answer(rt, answer, cursor)? {
+            return Ok(());
         }
         turns -= 1;
     }
+    Ok(())
 }
 
 // `stream` has room for the bytes of the line.
-fn answer_line(line: &[u8], stream: &mut [u8]) {
+fn answer_line(rt: &impl Print, line: &[u8], stream: &mut [u8]) -> io::Result<()> {
     let request = parse::parse_line(line, stream);
     match request {
         parse::Request::Unread => {
-            io::write_all(STDOUT_FILENO, b"(unread)\n");
+            rt.write_all(b"(unread)\n")?;
         }
         parse::Request::Read(cursor, count) => {
             if count <= stream.len() {
-                steps(&stream[..count], cursor);
+                steps(rt, &stream[..count], cursor)?;
             }
         }
     }
+    Ok(())
 }
 
 // A length of 257 stands for every line that is too long.
-fn end_line(line: &[u8], len: usize) {
+fn end_line(rt: &impl Print, line: &[u8], len: usize) -> io::Result<()> {
     if len <= line.len() {
         let mut stream = [0u8; 100];
-        answer_line(&line[..len], &mut stream);
+        answer_line(rt, &line[..len], &mut stream)
     } else {
-        io::write_all(STDOUT_FILENO, b"(unread)\n");
+        rt.write_all(b"(unread)\n")
     }
 }
 
 // The length of the line after `byte`.
-fn take(byte: u8, line: &mut [u8], len: usize) -> usize {
+fn take(rt: &impl Print, byte: u8, line: &mut [u8], len: usize) -> io::Result<usize> {
     if byte == b'\n' {
-        end_line(line, len);
-        return 0;
+        end_line(rt, line, len)?;
+        return Ok(0);
     }
     if len < line.len() {
         line[len] = byte;
-        len + 1
+        Ok(len + 1)
     } else {
-        257
+        Ok(257)
     }
 }
 
-fn take_all(chunk: &[u8], line: &mut [u8], from: usize) -> usize {
+fn take_all(rt: &impl Print, chunk: &[u8], line: &mut [u8], from: usize) -> io::Result<usize> {
     let mut len = from;
     let mut i = 0;
     while i < chunk.len() {
-        len = take(chunk[i], line, len);
+        len = take(rt, chunk[i], line, len)?;
         i += 1;
     }
-    len
+    Ok(len)
 }
 
-// Nothing says that the input ends, so the turns are counted down.
-fn main() {
-    let mut buffer = io::buffer();
+// Nothing says that the input ends, so the turns are counted.
+fn main(rt: HostRuntime) -> io::Result<()> {
+    let mut input = rt.stdin();
+    let mut buffer = [0u8; 4096];
     let mut line = [0u8; 256];
     let mut len = 0;
-    let mut turns = u64::MAX;
-    while turns > 0 {
-        let got = libc::read(STDIN_FILENO, &mut buffer);
-        let count = io::count(got, &buffer);
+    for _ in 0..u64::MAX {
+        let count = input.read(&mut buffer)?;
         if count == 0 {
             break;
         }
-        len = take_all(&buffer[..count], &mut line, len);
-        turns -= 1;
+        len = take_all(&rt, &buffer[..count], &mut line, len)?;
     }
     if len > 0 {
-        end_line(&line, len);
+        end_line(&rt, &line, len)?;
     }
+    Ok(())
 }

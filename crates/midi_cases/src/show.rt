@@ -1,13 +1,13 @@
 // Answers as text, one a line.
-use libc::STDOUT_FILENO;
 use midi::{Answer, Cursor};
+use std::io;
 
-fn put(text: &[u8]) {
-    io::write_all(STDOUT_FILENO, text);
+fn put(rt: &impl Print, text: &[u8]) -> io::Result<()> {
+    rt.write_all(text)
 }
 
-fn decimal(value: u64) {
-    io::print_decimal(STDOUT_FILENO, value);
+fn decimal(rt: &impl Print, value: u64) -> io::Result<()> {
+    rt.print(value)
 }
 
 fn glyph(digit: u8) -> u8 {
@@ -18,8 +18,8 @@ fn glyph(digit: u8) -> u8 {
     }
 }
 
-fn hex(byte: u8) {
-    put(&[glyph(byte / 16), glyph(byte % 16)]);
+fn hex(rt: &impl Print, byte: u8) -> io::Result<()> {
+    put(rt, &[glyph(byte / 16), glyph(byte % 16)])
 }
 
 // A NaN has the bits 7FC00000.
@@ -31,12 +31,12 @@ fn bits(value: f32) -> u32 {
     }
 }
 
-fn float(value: f32) {
+fn float(rt: &impl Print, value: f32) -> io::Result<()> {
     let b = bits(value);
-    hex((b / 0x100_0000) as u8);
-    hex((b / 0x1_0000 % 256) as u8);
-    hex((b / 256 % 256) as u8);
-    hex((b % 256) as u8);
+    hex(rt, (b / 0x100_0000) as u8)?;
+    hex(rt, (b / 0x1_0000 % 256) as u8)?;
+    hex(rt, (b / 256 % 256) as u8)?;
+    hex(rt, (b % 256) as u8)
 }
 
 fn flag(on: bool) -> u64 {
@@ -44,46 +44,46 @@ fn flag(on: bool) -> u64 {
 }
 
 // `word`, a number, and the bracket.
-fn form(word: &[u8], value: u64) {
-    put(word);
-    decimal(value);
-    put(b")\n");
+fn form(rt: &impl Print, word: &[u8], value: u64) -> io::Result<()> {
+    put(rt, word)?;
+    decimal(rt, value)?;
+    put(rt, b")\n")
 }
 
 // `word`, where the cursor stands, and the bracket.
-fn stopped(word: &[u8], cursor: Cursor) {
-    put(word);
-    decimal(cursor.place as u64);
-    put(b" ");
-    hex(cursor.status);
-    put(b")\n");
+fn stopped(rt: &impl Print, word: &[u8], cursor: Cursor) -> io::Result<()> {
+    put(rt, word)?;
+    decimal(rt, cursor.place as u64)?;
+    put(rt, b" ")?;
+    hex(rt, cursor.status)?;
+    put(rt, b")\n")
 }
 
 // Prints an answer, and says whether it is the last.
-pub fn answer(answer: Answer, cursor: Cursor) -> bool {
+pub fn answer(rt: &impl Print, answer: Answer, cursor: Cursor) -> io::Result<bool> {
     match answer {
         Answer::On(note, velocity) => {
-            put(b"(on ");
-            decimal(note as u64);
-            put(b" ");
-            float(velocity);
-            put(b")\n");
+            put(rt, b"(on ")?;
+            decimal(rt, note as u64)?;
+            put(rt, b" ")?;
+            float(rt, velocity)?;
+            put(rt, b")\n")?;
         }
-        Answer::Off(note) => form(b"(off ", note as u64),
-        Answer::Pedal(down) => form(b"(pedal ", flag(down)),
-        Answer::AllOff => put(b"(alloff)\n"),
-        Answer::Bend(value) => form(b"(bend ", value as u64),
-        Answer::Other => put(b"(other)\n"),
+        Answer::Off(note) => form(rt, b"(off ", note as u64)?,
+        Answer::Pedal(down) => form(rt, b"(pedal ", flag(down))?,
+        Answer::AllOff => put(rt, b"(alloff)\n")?,
+        Answer::Bend(value) => form(rt, b"(bend ", value as u64)?,
+        Answer::Other => put(rt, b"(other)\n")?,
         Answer::End => {
-            stopped(b"(end ", cursor);
-            return true;
+            stopped(rt, b"(end ", cursor)?;
+            return Ok(true);
         }
         Answer::Refused(number) => {
-            put(b"(refused ");
-            decimal(number as u64);
-            stopped(b" ", cursor);
-            return true;
+            put(rt, b"(refused ")?;
+            decimal(rt, number as u64)?;
+            stopped(rt, b" ", cursor)?;
+            return Ok(true);
         }
     }
-    false
+    Ok(false)
 }

@@ -5,8 +5,9 @@
 
 ghost use Rattle.std.specs.Prelude.{◌≡◌, ◌≤◌, ◌<◌, length};
 
-use libc::{STDIN_FILENO, STDOUT_FILENO};
 use replay::Session;
+use std::io;
+use std::io::Read;
 
 // The session, how long the line is so far (257 for every line that is too long), and the place in the output.
 #[derive(Drop)]
@@ -48,44 +49,48 @@ fn extend(line: &mut [u8], len: usize, chunk: &[u8], from: usize, to: usize) -> 
     n
 }
 
-fn write(out: &[u8], at: usize) {
+fn write(rt: &impl Print, out: &[u8], at: usize) -> io::Result<()> {
     if at <= out.len() {
-        io::write_all(STDOUT_FILENO, &out[..at]);
+        rt.write_all(&out[..at])?;
     }
+    Ok(())
 }
 
 // Writes the output where it may not have room for one more answer.
-fn drain(out: &[u8], at: usize) -> usize {
+fn drain(rt: &impl Print, out: &[u8], at: usize) -> io::Result<usize> {
     if at < 30_720 {
-        return at;
+        return Ok(at);
     }
-    write(out, at);
-    0
+    write(rt, out, at)?;
+    Ok(0)
 }
 
 fn answer(
+    rt: &impl Print,
     run: Run,
     line: &[u8],
     len: usize,
     samples: &mut [f32],
     stereo: &mut [f32],
     out: &mut [u8],
-) -> Run {
+) -> io::Result<Run> {
     if line.len() < len {
-        return run;
+        return Ok(run);
     }
     let before = run.session;
     let a = before.answer(&line[..len], samples, stereo, out, run.at);
     let session = a.session;
-    Run {
+    let at = drain(rt, out, a.at)?;
+    Ok(Run {
         session,
         len: 0,
-        at: drain(out, a.at),
-    }
+        at,
+    })
 }
 
 // Takes the bytes from `from` to `to`, and answers the line where a line feed stands there.
 fn take(
+    rt: &impl Print,
     mut run: Run,
     chunk: &[u8],
     from: usize,
@@ -94,13 +99,13 @@ fn take(
     samples: &mut [f32],
     stereo: &mut [f32],
     out: &mut [u8],
-) -> Run {
+) -> io::Result<Run> {
     let len = extend(line, run.len, chunk, from, to);
     if to < chunk.len() {
-        return answer(run, line, len, samples, stereo, out);
+        return answer(rt, run, line, len, samples, stereo, out);
     }
     run.len = len;
-    run
+    Ok(run)
 }
 
 // The place behind a line feed.
@@ -112,49 +117,58 @@ fn behind(chunk: &[u8], end: usize) -> usize
 }
 
 fn take_all(
+    rt: &impl Print,
     from: Run,
     chunk: &[u8],
     line: &mut [u8],
     samples: &mut [f32],
     stereo: &mut [f32],
     out: &mut [u8],
-) -> Run {
+) -> io::Result<Run> {
     let mut run = from;
     let mut i = 0;
     while i < chunk.len() {
         let end = line_end(chunk, i);
-        run = take(run, chunk, i, end, line, samples, stereo, out);
+        run = take(rt, run, chunk, i, end, line, samples, stereo, out)?;
         if chunk.len() <= end {
-            return run;
+            return Ok(run);
         }
         i = behind(chunk, end);
     }
-    run
+    Ok(run)
 }
 
 // What is printed so far goes out with each block of input.
 fn take_block(
+    rt: &impl Print,
     from: Run,
     chunk: &[u8],
     line: &mut [u8],
     samples: &mut [f32],
     stereo: &mut [f32],
     out: &mut [u8],
-) -> Run {
-    let mut run = take_all(from, chunk, line, samples, stereo, out);
-    write(out, run.at);
+) -> io::Result<Run> {
+    let mut run = take_all(rt, from, chunk, line, samples, stereo, out)?;
+    write(rt, out, run.at)?;
     run.at = 0;
-    run
+    Ok(run)
 }
 
 // The last line, which has no line feed.
-fn finish(run: Run, line: &[u8], samples: &mut [f32], stereo: &mut [f32], out: &mut [u8]) {
+fn finish(
+    rt: &impl Print,
+    run: Run,
+    line: &[u8],
+    samples: &mut [f32],
+    stereo: &mut [f32],
+    out: &mut [u8],
+) -> io::Result<()> {
     let len = run.len;
     if len == 0 {
-        return;
+        return Ok(());
     }
-    let end = answer(run, line, len, samples, stereo, out);
-    write(out, end.at);
+    let end = answer(rt, run, line, len, samples, stereo, out)?;
+    write(rt, out, end.at)
 }
 
 // The samples of 64 voices of 8 copies over 1,024 frames, and one more.
@@ -171,10 +185,11 @@ fn stereo_room() -> [f32; 2049]
     [0.0; 2049]
 }
 
-// A proved loop has to end, and nothing says that the input does: it counts down from what no run uses up.
-fn main() {
-    let mut input = io::large_buffer();
-    let mut out = io::large_buffer();
+// A proved loop has to end, and nothing says that the input does: it counts up to what no run reaches.
+fn main(rt: HostRuntime) -> io::Result<()> {
+    let mut stdin = rt.stdin();
+    let mut input = [0u8; 65536];
+    let mut out = [0u8; 65536];
     let mut line = [0u8; 257];
     let mut samples = samples_room();
     let mut stereo = stereo_room();
@@ -183,22 +198,20 @@ fn main() {
         len: 0,
         at: 0,
     };
-    let mut turns = u64::MAX;
-    while turns > 0 {
-        let got = libc::read(STDIN_FILENO, &mut input);
-        let count = io::count(got, &input);
+    for _ in 0..u64::MAX {
+        let count = stdin.read(&mut input)?;
         if count == 0 {
             break;
         }
         run = take_block(
+            &rt,
             run,
             &input[..count],
             &mut line,
             &mut samples,
             &mut stereo,
             &mut out,
-        );
-        turns -= 1;
+        )?;
     }
-    finish(run, &line, &mut samples, &mut stereo, &mut out);
+    finish(&rt, run, &line, &mut samples, &mut stereo, &mut out)
 }

@@ -3,8 +3,9 @@
 
 #![tactic(auto)]
 
-use libc::{STDIN_FILENO, STDOUT_FILENO};
 use script::Session;
+use std::io;
+use std::io::Read;
 
 // The session, and the line under way. Of a line longer than 257 bytes the first 257 are kept: it is too long already.
 #[derive(Drop)]
@@ -22,26 +23,27 @@ fn begin() -> Reading {
     }
 }
 
-fn print(out: &[u8], count: usize) {
+fn print(rt: &impl Print, out: &[u8], count: usize) -> io::Result<()> {
     if count <= out.len() {
-        io::write_all(STDOUT_FILENO, &out[..count]);
+        rt.write_all(&out[..count])?;
     }
+    Ok(())
 }
 
-fn answer(session: Session, line: &[u8]) -> Session {
+fn answer(rt: &impl Print, session: Session, line: &[u8]) -> io::Result<Session> {
     let mut out = [0u8; 4096];
     let said = script::line(session, line, &mut out);
     let next = said.session;
-    print(&out, said.count);
-    next
+    print(rt, &out, said.count)?;
+    Ok(next)
 }
 
 // A line feed, or the end of the input, ends the line.
-fn end_line(session: Session, line: &[u8], len: usize) -> Session {
+fn end_line(rt: &impl Print, session: Session, line: &[u8], len: usize) -> io::Result<Session> {
     if len <= line.len() {
-        return answer(session, &line[..len]);
+        return answer(rt, session, &line[..len]);
     }
-    session
+    Ok(session)
 }
 
 // The length of the line after a byte.
@@ -56,7 +58,7 @@ fn keep(byte: u8, line: &mut [u8], len: usize) -> usize {
     len
 }
 
-fn take_all(chunk: &[u8], r: Reading) -> Reading {
+fn take_all(rt: &impl Print, chunk: &[u8], r: Reading) -> io::Result<Reading> {
     let mut session = r.session;
     let mut line = r.line;
     let mut len = r.len;
@@ -64,36 +66,35 @@ fn take_all(chunk: &[u8], r: Reading) -> Reading {
     while i < chunk.len() {
         let byte = chunk[i];
         if byte == b'\n' {
-            session = end_line(session, &line, len);
+            session = end_line(rt, session, &line, len)?;
         }
         len = keep(byte, &mut line, len);
         i += 1;
     }
-    Reading { session, line, len }
+    Ok(Reading { session, line, len })
 }
 
 // The last line may lack its line feed.
-fn finish(r: Reading) {
+fn finish(rt: &impl Print, r: Reading) -> io::Result<()> {
     let line = r.line;
     if r.len > 0 {
-        end_line(r.session, &line, r.len);
+        end_line(rt, r.session, &line, r.len)?;
     }
+    Ok(())
 }
 
-// Nothing says that the input ends, so the turns are counted down.
-fn main() {
-    let mut buffer = io::buffer();
+// Nothing says that the input ends, so the turns are counted.
+fn main(rt: HostRuntime) -> io::Result<()> {
+    let mut input = rt.stdin();
+    let mut buffer = [0u8; 4096];
     let mut r = begin();
-    let mut turns = u64::MAX;
-    while turns > 0 {
-        let got = libc::read(STDIN_FILENO, &mut buffer);
-        let count = io::count(got, &buffer);
+    for _ in 0..u64::MAX {
+        let count = input.read(&mut buffer)?;
         if count == 0 {
             break;
         }
-        let next = take_all(&buffer[..count], r);
+        let next = take_all(&rt, &buffer[..count], r)?;
         r = next;
-        turns -= 1;
     }
-    finish(r);
+    finish(&rt, r)
 }
