@@ -1,4 +1,3 @@
 pub mod Itself
 pub mod Ordering
 pub mod Reciprocal
-pub mod Fraction

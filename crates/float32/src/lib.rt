@@ -66,12 +66,11 @@ pub fn clamp(x: f32, low: f32, high: f32) -> f32
     if high < x { high } else { x }
 }
 
-// x minus its whole part. The remainder by 1 is exact, and only its zero may have the wrong sign.
+// x minus its whole part.
 pub fn fract(x: f32) -> f32
     ensures { result ≡ fract_of x }
 {
-    let rest = x % 1.0;
-    if rest == 0.0 { 0.0 } else { rest }
+    x.fract()
 }
 
 // Whether a is below b in the order of levels: -0 below +0, a NaN above every number, all NaNs alike.

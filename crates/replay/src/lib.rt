@@ -19,7 +19,7 @@ mod show;
 mod steps;
 mod ticks;
 
-#[derive(Drop)]
+#[derive(Clone, Copy)]
 pub struct Session {
     pub instrument: Instrument,
     pub env: EnvGen,
@@ -28,7 +28,7 @@ pub struct Session {
 }
 
 // The next session, and the place behind what was printed.
-#[derive(Drop)]
+#[derive(Clone, Copy)]
 pub struct Answered {
     pub session: Session,
     pub at: usize,

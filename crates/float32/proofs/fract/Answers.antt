@@ -1,20 +1,21 @@
-use mathlib.Core.Path.{◌≡◌, sym, ◌∙◌}
-use mathlib.Core.Bool.{true, false}
-use denote.Floats.{passes}
-use lib.Dec.{T}
-use lib.Ieee.{Float, binary32, fits, rem, eq}
-use Rattle.float32.specs.Numbers.{zero, one, fract_of}
-use Rattle.float32.proofs.Fraction.{fract-is}
+-- Both definitions cut x toward zero and subtract; std's goes by the sign too.
+use Rattle.std.proofs.Common.{◌≡◌, refl, sym, ap, ◌∙◌}
+use Rattle.std.specs.Prelude.{true, false, Float}
+use Rattle.std.specs.Float.{nan, inf, fin, binary32, trunc, round_with}
+use Rattle.std.specs.Float.Ieee.{sub}
+use Rattle.float32.specs.Numbers.{whole_part, fract_of}
 use Rattle.float32.proofs.fract.Goals as goal
 
-at_zero : (x : Float) → T (fits binary32 x) → eq (rem binary32 x one) zero ≡ true → zero ≡ fract_of x
-at_zero x t h = sym (fract-is x t ∙ rw h)
+whole : (x : Float) → whole_part x ≡ trunc binary32 x
+unfolding whole_part round_with
+whole nan = refl
+whole (inf s) = refl
+whole (fin false m e) = refl
+whole (fin true m e) = refl
 
-beside : (x : Float) → T (fits binary32 x) → eq (rem binary32 x one) zero ≡ false → rem binary32 x one ≡ fract_of x
-beside x t h = sym (fract-is x t ∙ rw h)
+cut : (x : Float) → sub binary32 x (trunc binary32 x) ≡ fract_of x
+unfolding fract_of
+cut x = sym (ap (sub binary32 x) (whole x))
 
-pub returns-then-rest : goal.returns-then-rest
-returns-then-rest c = at_zero c.args.x (passes _ c.well_formed.0.1) c.if-rest.true
-
-pub returns-else-rest : goal.returns-else-rest
-returns-else-rest c = beside c.args.x (passes _ c.well_formed.0.1) c.if-rest.false
+pub returns : goal.returns
+returns c = c.fract.ensures ∙ cut c.args.x
