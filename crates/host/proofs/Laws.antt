@@ -210,7 +210,8 @@ untick e fails = record {
   next = λ sure. absurd (clash _ sure fails);
 }
 
-pub ticks : (e : HostEnv) → stage_numbered e ≡ true → (g u : EnvGen) (t : HostEnv) → g ≡ env_of e → u ≡ ticked g → env_of t ≡ u → stage_numbered t ≡ true → HostTickAs e (record { number = 0; env = t })
+pub ticks : (e : HostEnv) → stage_numbered e ≡ true → (g u : EnvGen) (t : HostEnv) → g ≡ env_of e → u ≡ ticked g → env_of t ≡ u → stage_numbered t ≡ true
+    → HostTickAs e (record { number = 0; env = t })
 ticks e sure g u t p q w n = record {
   number = sym (cond-true _ _ _ sure);
   refused = λ fails. absurd (clash _ sure fails);

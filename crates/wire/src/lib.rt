@@ -87,7 +87,7 @@ pub struct HostVoice {
 }
 
 #[repr(C)]
-#[derive(Drop)]
+#[derive(Clone, Copy)]
 pub struct HostState {
     pub design: HostDesign,
     pub voices: [HostVoice; 64],

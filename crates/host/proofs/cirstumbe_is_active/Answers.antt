@@ -1,0 +1,13 @@
+use mathlib.Core.Path.{sym, ◌∙◌}
+use Rattle.model.specs.Queries.{is_active}
+use Rattle.host.proofs.Laws.{unasked, hosted-answer}
+use Rattle.host.proofs.cirstumbe_is_active.Goals as goal
+
+pub returns-then-not-numbered : goal.returns-then-not-numbered
+returns-then-not-numbered c = unasked _ (sym c.numbered.ensures ∙ c.if-not-numbered.true) _ _ c.said_refused.ensures
+
+pub returns : goal.returns
+returns c =
+    let sure = sym c.numbered.ensures ∙ c.if-not-numbered.false in
+    hosted-answer _ _ sure c.read.ensures c.is_active.result (λ m. is_active m c.args.handle) _ c.is_active.ensures
+    c.said_answer.ensures
