@@ -1,6 +1,6 @@
 -- The helpers on floats, as document 01 fixes them ("Forms in this Rust that stand in the way"; "Copies, Plan and Mix", the sentence on two zeros).
 -- Each is total: a float is a number with its sign, an infinity or the one NaN.
-use Rattle.std.specs.Prelude.{not, ◌&&◌, cond, ◌*◌, ◌/◌, Float}
+use Rattle.std.specs.Prelude.{◌&&◌, cond, ◌*◌, ◌/◌, Float}
 use Rattle.std.specs.Float.{nan, inf, fin, binary32}
 use Rattle.std.specs.Float.Ieee.{of_bits, is_nan, eq, lt, sub, round, up, down}
 

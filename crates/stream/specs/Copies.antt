@@ -1,5 +1,5 @@
 -- Building copy k of n (document 01, "Copies, Plan and Mix", its first three sentences).
-use Rattle.std.specs.Prelude.{not, cond, ℕ, ◌-◌, leb, Float, pos}
+use Rattle.std.specs.Prelude.{cond, ℕ, ◌-◌, leb, Float, pos}
 use Rattle.std.specs.Float.{binary32}
 use Rattle.std.specs.Float.Ieee.{of_bits, of_int, add, sub, mul, div, eq, neg}
 use Rattle.float32.specs.Numbers.{zero, one, min_of, clamp_of}

@@ -7,7 +7,6 @@ use native.Mathlib.Omega.{arith}
 use lib.ListN.{length, drop, length-drop}
 use Rattle.text.specs.declared.Read.{Read}
 use Rattle.text.specs.Read.{ReadAs}
-use Rattle.text.proofs.Decimals.{never}
 
 -- a place is known by what is behind it
 place_same : (l : List ℕ) (i j : ℕ) → i ≤ length l → j ≤ length l → drop i l ≡ drop j l → i ≡ j

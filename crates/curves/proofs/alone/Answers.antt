@@ -1,6 +1,4 @@
 use mathlib.Core.Bool.{true≢false}
-use native.Mathlib.Omega.{arith}
-use borrow.Author.Rules.{rules}
 use Rattle.curves.proofs.alone.Goals as goal
 
 pub returns-then-left-lt4 : goal.returns-then-left-lt4

@@ -1,6 +1,6 @@
 use mathlib.Core.List.{flat_map, List, map}
 use mathlib.Core.Path.{◌≡◌, refl, ap, sym, ◌∙◌}
-use Prim.Native.Nat.{◌*◌, min, ◌≤◌, ◌<◌, ◌-◌, ◌+◌}
+use Prim.Native.Nat.{◌*◌, min, ◌≤◌, ◌-◌, ◌+◌}
 use native.Mathlib.Nat.{mul-zero}
 use native.Mathlib.Omega.{arith}
 use borrow.Author.Rules.{rules}
@@ -147,7 +147,7 @@ loop-j-smaller c = omega (arith, c.alone.ensures c.if-alone.false)
 
 pub loop-j-preserved : goal.loop-j-preserved
 loop-j-preserved c =
-        let a = c.args in
+    let a = c.args in
     let len = c.well_formed.0.1.0.1 in
     let inv = c.loop-j.invariant in
     let m : c.loop-j.j + 4 ≤ c.smaller-n.result = omega (arith, c.alone.ensures c.if-alone.false) in

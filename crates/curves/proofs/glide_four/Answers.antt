@@ -1,9 +1,5 @@
-use mathlib.Core.Path.{◌≡◌}
-use Prim.Native.Nat.{◌*◌, ◌-◌}
 use native.Mathlib.Omega.{arith}
-use borrow.Author.Rules.{rules}
-use lib.ListN.{length}
-use Rattle.curves.proofs.Rows.{Rows, rows_none, rows_more, rows_whole}
+use Rattle.curves.proofs.Rows.{rows_none, rows_more, rows_whole}
 use Rattle.curves.proofs.glide_four.Goals as goal
 
 pub loop-i-init : goal.loop-i-init

@@ -1,4 +1,3 @@
-use borrow.Author.Rules.{rules}
 use Rattle.curves.proofs.Holds.{steady-glides}
 use Rattle.curves.proofs.glide_one.Goals as goal
 

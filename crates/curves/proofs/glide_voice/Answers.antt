@@ -1,10 +1,7 @@
 use mathlib.Core.Path.{refl}
-use borrow.Author.Rules.{rules}
-use borrow.Author.Tests.{not-true, not-false}
 use Rattle.model.specs.Voices.{with_copies, with_voice}
 use Rattle.voice.specs.View.{shown, seen}
 use Rattle.voice.specs.Changes.{on_seen}
-use Rattle.curves.specs.Glides.{Fits}
 use Rattle.curves.proofs.Glides.{fits, misfits}
 use Rattle.curves.proofs.glide_voice.Goals as goal
 

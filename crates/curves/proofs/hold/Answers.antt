@@ -1,8 +1,7 @@
 use mathlib.Core.Path.{◌≡◌, refl, ap, sym, ◌∙◌}
-use Prim.Native.Nat.{ℕ, ◌≤◌, ◌-◌}
+use Prim.Native.Nat.{ℕ}
 use native.Mathlib.Omega.{arith}
-use borrow.Author.Rules.{rules}
-use lib.ListN.{length, length-set, take, replicate}
+use lib.ListN.{length, length-set, replicate}
 use lib.Seq.{take-length}
 use Rattle.curves.proofs.Holds.{hold-more}
 use Rattle.curves.proofs.hold.Goals as goal

@@ -1,10 +1,6 @@
-use mathlib.Core.Path.{◌≡◌, refl, ap, sym, ◌∙◌}
-use Prim.Native.Nat.{ℕ, ◌≤◌, ◌-◌}
-use native.Mathlib.Omega.{arith}
-use borrow.Author.Rules.{rules}
-use lib.ListN.{length, length-set, take, replicate}
-use lib.Seq.{take-length}
-use Rattle.curves.proofs.Holds.{hold-more}
+use mathlib.Core.Path.{◌≡◌}
+use Prim.Native.Nat.{◌≤◌, ◌-◌}
+use lib.ListN.{length, take, replicate}
 use Rattle.curves.proofs.hold.Given as goal
 
 abbrev pub invariant-loop-i : goal.invariant-loop-i

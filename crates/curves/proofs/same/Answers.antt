@@ -1,5 +1,4 @@
 use mathlib.Core.Path.{ap, sym, ◌∙◌}
-use borrow.Author.Rules.{rules}
 use borrow.Author.Tests.{eqb-true, eq-eqb}
 use denote.Floats.{passes}
 use lib.Ieee.{binary32, of_bits, to_bits}

@@ -1,16 +1,10 @@
-use mathlib.Core.Path.{◌≡◌, refl}
+use mathlib.Core.Path.{◌≡◌}
 use mathlib.Core.List.{map}
-use Prim.Native.Nat.{ℕ, ◌≤◌, ◌<◌, ◌-◌}
-use native.Mathlib.Omega.{arith}
-use borrow.Author.Rules.{rules}
-use borrow.Author.Tests.{not-true, not-false}
-use lib.ListN.{length, take, get_or}
-use lib.Seq.{take_all}
-use Rattle.lists.specs.Choose.{clash}
+use Prim.Native.Nat.{ℕ, ◌≤◌, ◌-◌}
+use lib.ListN.{take}
 use Rattle.stream.specs.Pitch.{glided}
 use Rattle.voice.specs.declared.Voice.{Voice}
-use Rattle.voice.specs.View.{shown, no_copy}
-use Rattle.curves.proofs.Standing.{copy_at, stands-more, stood, all-stand, one-moves}
+use Rattle.voice.specs.View.{shown}
 use Rattle.curves.proofs.stands.Given as goal
 
 abbrev Stand : Voice → ℕ → Type 0

@@ -1,4 +1,3 @@
-use borrow.Author.Rules.{rules}
 use Rattle.stream.specs.Pitch.{pitched, stepped}
 use Rattle.curves.proofs.steady.Goals as goal
 

@@ -1,6 +1,5 @@
 use mathlib.Core.Path.{ap}
 use mathlib.Core.List.{map}
-use borrow.Author.Rules.{rules}
 use Rattle.lists.specs.Parts.{reads_all}
 use Rattle.stream.specs.Pitch.{stepped}
 use Rattle.voice.specs.View.{no_copy}

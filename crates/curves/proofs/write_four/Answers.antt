@@ -1,7 +1,6 @@
 use mathlib.Core.Path.{ap}
 use mathlib.Core.List.{List, map}
 use native.Mathlib.Omega.{arith}
-use borrow.Author.Rules.{rules}
 use lib.ListN.{length-set}
 use Rattle.lists.specs.Parts.{reads_all}
 use Rattle.stream.specs.declared.UnisonCopy.{UnisonCopy}

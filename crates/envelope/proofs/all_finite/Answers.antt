@@ -1,8 +1,6 @@
 use Rattle.lists.specs.Choose.{and-fails, and_then}
 use Rattle.envelope.specs.Start.{all_finite}
 use mathlib.Core.Path.{sym, ◌∙◌}
-use borrow.Author.Tests.{not-true, not-false}
-use borrow.Author.Rules.{rules}
 use Rattle.envelope.proofs.all_finite.Goals as goal
 
 pub returns-then-not-is_finite : goal.returns-then-not-is_finite

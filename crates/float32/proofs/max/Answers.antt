@@ -36,8 +36,9 @@ returns-then-a-b c =
     let p = sym (nan-test _) ∙ b.if-a.false in
     let q = sym (nan-test _) ∙ b.if-b.false in
     elim c.if-a-2.branch [
-      then-a-2+else-b-2 w ↦ second-not _ _ p q true c.if-a-b.true w.if-a-2.true w.if-b-2.false
-      | else-a-2 w ↦ first-not _ _ p q true c.if-a-b.true w.if-a-2.false ]
+      | then-a-2+else-b-2 w ↦ second-not _ _ p q true c.if-a-b.true w.if-a-2.true w.if-b-2.false
+      | else-a-2 w ↦ first-not _ _ p q true c.if-a-b.true w.if-a-2.false
+    ]
 
 pub returns-else-a-b : goal.returns-else-a-b
 returns-else-a-b c =
@@ -45,5 +46,6 @@ returns-else-a-b c =
     let p = sym (nan-test _) ∙ b.if-a.false in
     let q = sym (nan-test _) ∙ b.if-b.false in
     elim c.if-a-2.branch [
-      then-a-2+else-b-2 w ↦ second-not _ _ p q false c.if-a-b.false w.if-a-2.true w.if-b-2.false
-      | else-a-2 w ↦ first-not _ _ p q false c.if-a-b.false w.if-a-2.false ]
+      | then-a-2+else-b-2 w ↦ second-not _ _ p q false c.if-a-b.false w.if-a-2.true w.if-b-2.false
+      | else-a-2 w ↦ first-not _ _ p q false c.if-a-b.false w.if-a-2.false
+    ]

@@ -1,7 +1,6 @@
 use mathlib.Core.Path.{refl, sym}
 use Prim.Native.Nat.{◌<◌}
 use native.Mathlib.Omega.{arith}
-use borrow.Author.Rules.{rules}
 use lib.Ieee.{nan, div, of_bits}
 use lib.ListN.{get_or-eq_default}
 use Rattle.float32.specs.Root.{root_of, roots}

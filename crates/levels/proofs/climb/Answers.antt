@@ -1,9 +1,4 @@
-use Prim.Native.Nat.{◌-◌}
 use native.Mathlib.Omega.{arith}
-use borrow.Author.Rules.{rules}
-use lib.Ieee.{le}
-use Rattle.float32.specs.Numbers.{one}
-use Rattle.levels.specs.Runs.{Within, up, Sloped}
 use Rattle.levels.proofs.Frames.{within-start, within_more}
 use Rattle.levels.proofs.Slopes.{slope-start, slope-more}
 use Rattle.levels.proofs.climb.Goals as goal

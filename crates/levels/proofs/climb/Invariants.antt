@@ -1,11 +1,7 @@
 use Prim.Native.Nat.{◌-◌}
-use native.Mathlib.Omega.{arith}
-use borrow.Author.Rules.{rules}
 use lib.Ieee.{le}
 use Rattle.float32.specs.Numbers.{one}
 use Rattle.levels.specs.Runs.{Within, up, Sloped}
-use Rattle.levels.proofs.Frames.{within-start, within_more}
-use Rattle.levels.proofs.Slopes.{slope-start, slope-more}
 use Rattle.levels.proofs.climb.Given as goal
 
 abbrev pub invariant-loop-f : goal.invariant-loop-f

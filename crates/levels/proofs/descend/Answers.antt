@@ -1,7 +1,4 @@
-use Prim.Native.Nat.{◌-◌}
 use native.Mathlib.Omega.{arith}
-use borrow.Author.Rules.{rules}
-use Rattle.levels.specs.Runs.{Within, down, at_most, Sloped}
 use Rattle.levels.proofs.Frames.{within-start, within_more}
 use Rattle.levels.proofs.Slopes.{slope-start, slope-more}
 use Rattle.levels.proofs.descend.Goals as goal

@@ -1,11 +1,7 @@
 use mathlib.Core.Path.{◌≡◌, refl}
-use Prim.Native.Nat.{◌-◌}
 use native.Mathlib.Omega.{arith}
-use borrow.Author.Rules.{rules}
-use lib.ListN.{replicate}
-use Rattle.float32.specs.Numbers.{zero}
 use Rattle.envelope.specs.Gates.{at}
-use Rattle.levels.specs.Runs.{Within, Ran, in_stage}
+use Rattle.levels.specs.Runs.{in_stage}
 use Rattle.levels.proofs.Frames.{within-start, within_more, within-join, ran-none, ran-join, ran-more, filled}
 use Rattle.levels.proofs.fill.Goals as goal
 

@@ -1,8 +1,5 @@
-use Prim.Native.Nat.{◌-◌}
 use native.Mathlib.Omega.{arith}
-use borrow.Author.Rules.{rules}
 use mathlib.Core.Path.{refl}
-use Rattle.levels.specs.Runs.{Within, always, never, Sloped}
 use Rattle.levels.proofs.Frames.{within-start, within_more}
 use Rattle.levels.proofs.Slopes.{slope-start, slope-more}
 use Rattle.levels.proofs.hold.Goals as goal

@@ -1,5 +1,4 @@
 use mathlib.Core.Path.{refl}
-use borrow.Author.Rules.{rules}
 use Rattle.levels.specs.Runs.{Sloped}
 use Rattle.levels.proofs.Frames.{within-start}
 use Rattle.levels.proofs.Slopes.{attack-steps, run_none}

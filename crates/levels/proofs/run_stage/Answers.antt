@@ -1,5 +1,4 @@
 use mathlib.Core.Path.{refl}
-use borrow.Author.Rules.{rules}
 use Rattle.levels.specs.Runs.{Sloped}
 use Rattle.levels.proofs.Slopes.{idle-steps, sustain-steps}
 use Rattle.levels.proofs.run_stage.Goals as goal

@@ -4,7 +4,6 @@ use Prim.Native.Nat.{ℕ, zero, suc, ◌*◌, ◌%◌, ◌/◌, ◌<◌, ◌≤�
 use native.Mathlib.Nat.{mul-zero, div-add-mod', mul-div_cancel, mul-mod_left, mul-le-mul}
 use native.Mathlib.Omega.{arith}
 use borrow.Author.Tests.{eq-eqb, ne_eqb, eqb-true}
-use borrow.Author.Rules.{rules}
 use lib.Dec.{eqb}
 use Rattle.lists.proofs.fills.Goals as goal
 

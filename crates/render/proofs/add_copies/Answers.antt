@@ -1,5 +1,5 @@
 use mathlib.Core.Path.{◌≡◌, refl, ap}
-use Prim.Native.Nat.{◌*◌, ℕ, ◌≤◌, ◌-◌, ◌+◌}
+use Prim.Native.Nat.{◌*◌, ℕ, ◌≤◌, ◌+◌}
 use native.Mathlib.Omega.{arith}
 use borrow.Author.Rules.{rules}
 use lib.ListN.{length-take, length, take, drop}
@@ -8,7 +8,7 @@ use Rattle.model.specs.Mix.{Mixing, mixing, on_left, on_right}
 use Rattle.voice.specs.declared.Voice.{Voice}
 use Rattle.voice.specs.View.{shown}
 use Rattle.voice.proofs.Sizes.{copies-long}
-use Rattle.render.proofs.Turns.{Copied, copy-one, copy-four, row_fits, row-after, four-fit, four-after}
+use Rattle.render.proofs.Turns.{copy-one, copy-four, row_fits, row-after, four-fit, four-after}
 use Rattle.render.proofs.add_copies.Goals as goal
 
 all-copies : (v : Voice) (j k : ℕ) → j ≡ k → k ≡ length (shown v).copies → take j v.copies ≡ (shown v).copies

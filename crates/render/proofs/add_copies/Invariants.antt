@@ -1,14 +1,8 @@
-use mathlib.Core.Path.{◌≡◌, refl, ap}
-use Prim.Native.Nat.{◌*◌, ℕ, ◌≤◌, ◌-◌, ◌+◌}
-use native.Mathlib.Omega.{arith}
-use borrow.Author.Rules.{rules}
-use lib.ListN.{length-take, length, take, drop}
-use Rattle.lists.specs.Prefix.{take_min}
-use Rattle.model.specs.Mix.{Mixing, mixing, on_left, on_right}
-use Rattle.voice.specs.declared.Voice.{Voice}
-use Rattle.voice.specs.View.{shown}
-use Rattle.voice.proofs.Sizes.{copies-long}
-use Rattle.render.proofs.Turns.{Copied, copy-one, copy-four, row_fits, row-after, four-fit, four-after}
+use mathlib.Core.Path.{◌≡◌}
+use Prim.Native.Nat.{◌*◌, ◌≤◌, ◌-◌, ◌+◌}
+use lib.ListN.{length, take, drop}
+use Rattle.model.specs.Mix.{mixing, on_left, on_right}
+use Rattle.render.proofs.Turns.{Copied}
 use Rattle.render.proofs.add_copies.Given as goal
 
 abbrev pub invariant-loop-j : goal.invariant-loop-j

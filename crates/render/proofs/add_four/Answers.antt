@@ -1,9 +1,8 @@
 use mathlib.Core.Path.{◌≡◌, refl}
-use Prim.Native.Nat.{◌≤◌, ◌-◌}
 use native.Mathlib.Omega.{arith}
 use borrow.Author.Rules.{rules}
-use lib.ListN.{length, length-set, take}
-use Rattle.render.specs.Parts.{gains, add_four, BothSides}
+use lib.ListN.{length-set}
+use Rattle.render.specs.Parts.{gains, add_four}
 use Rattle.render.proofs.Turns.{four-more}
 use Rattle.render.proofs.add_four.Goals as goal
 

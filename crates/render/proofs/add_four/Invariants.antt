@@ -1,10 +1,7 @@
-use mathlib.Core.Path.{◌≡◌, refl}
+use mathlib.Core.Path.{◌≡◌}
 use Prim.Native.Nat.{◌≤◌, ◌-◌}
-use native.Mathlib.Omega.{arith}
-use borrow.Author.Rules.{rules}
-use lib.ListN.{length, length-set, take}
+use lib.ListN.{length, take}
 use Rattle.render.specs.Parts.{gains, add_four, BothSides}
-use Rattle.render.proofs.Turns.{four-more}
 use Rattle.render.proofs.add_four.Given as goal
 
 abbrev pub invariant-loop-f : goal.invariant-loop-f

@@ -1,10 +1,7 @@
 use mathlib.Core.Path.{◌≡◌, refl}
-use Prim.Native.Nat.{◌≤◌, ◌-◌}
 use native.Mathlib.Omega.{arith}
 use borrow.Author.Rules.{rules}
-use lib.ListN.{length, length-set, take}
-use Rattle.model.specs.Mix.{add_side}
-use Rattle.render.specs.Parts.{row, BothSides}
+use lib.ListN.{length-set}
 use Rattle.render.proofs.Turns.{one_more}
 use Rattle.render.proofs.add_one.Goals as goal
 

@@ -1,11 +1,8 @@
-use mathlib.Core.Path.{◌≡◌, refl}
+use mathlib.Core.Path.{◌≡◌}
 use Prim.Native.Nat.{◌≤◌, ◌-◌}
-use native.Mathlib.Omega.{arith}
-use borrow.Author.Rules.{rules}
-use lib.ListN.{length, length-set, take}
+use lib.ListN.{length, take}
 use Rattle.model.specs.Mix.{add_side}
 use Rattle.render.specs.Parts.{row, BothSides}
-use Rattle.render.proofs.Turns.{one_more}
 use Rattle.render.proofs.add_one.Given as goal
 
 abbrev pub invariant-loop-f : goal.invariant-loop-f

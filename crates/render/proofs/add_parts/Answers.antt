@@ -1,5 +1,5 @@
 use mathlib.Core.Path.{◌≡◌, refl, ap, sym, ◌∙◌}
-use Prim.Native.Nat.{◌+◌, ◌≤◌, ◌-◌, min}
+use Prim.Native.Nat.{◌+◌, ◌≤◌, min}
 use native.Mathlib.Omega.{arith}
 use borrow.Author.Rules.{rules}
 use lib.ListN.{take, drop}
@@ -7,7 +7,7 @@ use Rattle.levels.proofs.Frames.{aged-add}
 use Rattle.model.specs.Voices.{aged}
 use Rattle.model.specs.Mix.{levels, on_left, on_right}
 use Rattle.voice.specs.View.{shown}
-use Rattle.render.proofs.Parts.{Added, added_none, added-room, added_more, added-all}
+use Rattle.render.proofs.Parts.{added_none, added-room, added_more, added-all}
 use Rattle.render.proofs.add_parts.Goals as goal
 
 pub loop-a-init : goal.loop-a-init

@@ -1,13 +1,10 @@
-use mathlib.Core.Path.{◌≡◌, refl, ap, sym, ◌∙◌}
-use Prim.Native.Nat.{◌+◌, ◌≤◌, ◌-◌, min}
-use native.Mathlib.Omega.{arith}
-use borrow.Author.Rules.{rules}
-use lib.ListN.{take, drop}
-use Rattle.levels.proofs.Frames.{aged-add}
+use mathlib.Core.Path.{◌≡◌}
+use Prim.Native.Nat.{◌≤◌, ◌-◌}
+use lib.ListN.{drop}
 use Rattle.model.specs.Voices.{aged}
-use Rattle.model.specs.Mix.{levels, on_left, on_right}
+use Rattle.model.specs.Mix.{on_left, on_right}
 use Rattle.voice.specs.View.{shown}
-use Rattle.render.proofs.Parts.{Added, added_none, added-room, added_more, added-all}
+use Rattle.render.proofs.Parts.{Added}
 use Rattle.render.proofs.add_parts.Given as goal
 
 abbrev pub invariant-loop-a : goal.invariant-loop-a

@@ -3,8 +3,7 @@ use mathlib.Core.Bool.{false}
 use mathlib.Core.List.{List}
 use Prim.Native.Nat.{ℕ, ◌*◌, ◌<◌}
 use native.Mathlib.Omega.{arith}
-use borrow.Author.Tests.{not-true, not-false, eq-eqb, eqb-true}
-use borrow.Author.Rules.{rules}
+use borrow.Author.Tests.{eq-eqb, eqb-true}
 use lib.Dec.{eqb}
 use lib.Ieee.{Float}
 use lib.ListN.{length, take}
@@ -40,10 +39,10 @@ returns-then-not-fills c = other-places _ _ _ _ (sym c.fills.ensures ∙ c.if-no
 
 pub put_pairs-requires : goal.put_pairs-requires
 put_pairs-requires c = record {
-      left_sums = omega arith;
-      right_sums = omega arith;
-      places = eqb-true _ _ (sym c.fills.ensures ∙ c.if-not-fills.false);
-    }
+  left_sums = omega arith;
+  right_sums = omega arith;
+  places = eqb-true _ _ (sym c.fills.ensures ∙ c.if-not-fills.false);
+}
 
 pub returns : goal.returns
 returns c =

@@ -1,10 +1,9 @@
 use mathlib.Core.Path.{◌≡◌, refl, sym, ◌∙◌}
-use Prim.Native.Nat.{◌≤◌, ◌-◌, ◌+◌}
+use Prim.Native.Nat.{◌≤◌, ◌+◌}
 use native.Mathlib.Omega.{arith}
 use borrow.Author.Rules.{rules}
-use lib.ListN.{length-set, length, take}
+use lib.ListN.{length-set, length}
 use lib.Seq.{take_all}
-use Rattle.model.specs.Mix.{interleave}
 use Rattle.render.proofs.Turns.{put-more}
 use Rattle.render.proofs.put_pairs.Goals as goal
 

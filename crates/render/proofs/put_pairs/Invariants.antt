@@ -1,11 +1,7 @@
-use mathlib.Core.Path.{◌≡◌, refl, sym, ◌∙◌}
+use mathlib.Core.Path.{◌≡◌}
 use Prim.Native.Nat.{◌≤◌, ◌-◌, ◌+◌}
-use native.Mathlib.Omega.{arith}
-use borrow.Author.Rules.{rules}
-use lib.ListN.{length-set, length, take}
-use lib.Seq.{take_all}
+use lib.ListN.{length, take}
 use Rattle.model.specs.Mix.{interleave}
-use Rattle.render.proofs.Turns.{put-more}
 use Rattle.render.proofs.put_pairs.Given as goal
 
 abbrev pub invariant-loop-f : goal.invariant-loop-f

@@ -1,6 +1,5 @@
 use borrow.Author.Tests.{le-leb, lt-leb}
 use Rattle.stream.specs.Copies.{spread_of}
-use borrow.Author.Rules.{rules}
 use Rattle.stream.proofs.spread.Goals as goal
 
 pub returns-then-n-le1 : goal.returns-then-n-le1

@@ -1,11 +1,5 @@
-use Prim.Native.Nat.{◌-◌}
-use borrow.Author.Tests.{not-true, not-false}
-use lib.ListN.{length}
 use native.Mathlib.Omega.{arith}
-use borrow.Author.Rules.{rules}
-use Rattle.text.specs.Text.{figure}
-use Rattle.text.specs.Read.{FigureAs}
-use Rattle.text.proofs.Decimals.{none_first, none-large, none_more, read_done, Reading, reading-first, reading-more}
+use Rattle.text.proofs.Decimals.{none_first, none-large, none_more, read_done, reading-first, reading-more}
 use Rattle.text.proofs.decimal.Goals as goal
 
 -- `text::decimal` meets its contract: `Reading` holds of what was read, one digit more a turn.

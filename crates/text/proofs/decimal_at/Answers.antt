@@ -1,5 +1,4 @@
 use native.Mathlib.Omega.{arith}
-use borrow.Author.Rules.{rules}
 use Rattle.text.specs.Text.{figure}
 use Rattle.text.proofs.Spelt.{figure-in, figure-out}
 use Rattle.text.proofs.decimal_at.Goals as goal

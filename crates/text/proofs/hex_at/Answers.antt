@@ -1,5 +1,4 @@
 use native.Mathlib.Omega.{arith}
-use borrow.Author.Rules.{rules}
 use Rattle.text.specs.Text.{glyph}
 use Rattle.text.proofs.Spelt.{figure-in, figure-out}
 use Rattle.text.proofs.hex_at.Goals as goal

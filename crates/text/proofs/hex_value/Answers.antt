@@ -1,6 +1,5 @@
 use native.Mathlib.Omega.{arith}
 use Rattle.text.proofs.Words.{value_low, value-high, value_none}
-use borrow.Author.Rules.{rules}
 use Rattle.text.proofs.hex_value.Goals as goal
 
 -- `text::hex_value` meets its contract, range by range.

@@ -1,8 +1,5 @@
-use Prim.Native.Nat.{◌-◌}
-use lib.ListN.{length}
 use native.Mathlib.Omega.{arith}
-use borrow.Author.Rules.{rules}
-use Rattle.text.proofs.Literals.{literal-beyond, literal-short, literal-other, literal-done, Met, met-none, met-more}
+use Rattle.text.proofs.Literals.{literal-beyond, literal-short, literal-other, literal-done, met-none, met-more}
 use Rattle.text.proofs.literal.Goals as goal
 
 -- `text::literal` meets its contract: `Met` holds of the bytes that were compared.

@@ -1,7 +1,5 @@
-use Prim.Native.Nat.{◌-◌}
-use lib.ListN.{length}
 use native.Mathlib.Omega.{arith}
-use Rattle.text.proofs.Puts.{put-none, put-done, Putting, putting-none, putting-more}
+use Rattle.text.proofs.Puts.{put-none, put-done, putting-none, putting-more}
 use Rattle.text.proofs.put_literal.Goals as goal
 
 -- `text::put_literal` meets its contract: `Putting` holds of the bytes that were put.

@@ -1,7 +1,6 @@
 use Prim.Native.Nat.{◌-◌}
 use lib.ListN.{length}
-use native.Mathlib.Omega.{arith}
-use Rattle.text.proofs.Puts.{put-none, put-done, Putting, putting-none, putting-more}
+use Rattle.text.proofs.Puts.{Putting}
 use Rattle.text.proofs.put_literal.Given as goal
 
 abbrev pub invariant-loop-i : goal.invariant-loop-i

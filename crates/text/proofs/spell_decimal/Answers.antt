@@ -2,7 +2,7 @@ use mathlib.Core.Path.{◌∙◌, sym}
 use lib.ListN.{length-set}
 use native.Mathlib.Omega.{arith}
 use Rattle.text.proofs.Decimals.{tens}
-use Rattle.text.proofs.Spells.{Figuring, figuring-none, figuring-more, figuring-done}
+use Rattle.text.proofs.Spells.{figuring-none, figuring-more, figuring-done}
 use Rattle.text.proofs.spell_decimal.Goals as goal
 
 -- `text::spell_decimal` meets its contract: `Figuring` holds of the digits that stand in the buffer.

@@ -1,8 +1,4 @@
-use mathlib.Core.Path.{◌∙◌, sym}
-use lib.ListN.{length-set}
-use native.Mathlib.Omega.{arith}
-use Rattle.text.proofs.Decimals.{tens}
-use Rattle.text.proofs.Spells.{Figuring, figuring-none, figuring-more, figuring-done}
+use Rattle.text.proofs.Spells.{Figuring}
 use Rattle.text.proofs.spell_decimal.Given as goal
 
 abbrev pub invariant-loop-rest : goal.invariant-loop-rest

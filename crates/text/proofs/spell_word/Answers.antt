@@ -1,8 +1,7 @@
 use mathlib.Core.Path.{◌∙◌, sym}
-use Prim.Native.Nat.{◌-◌}
 use native.Mathlib.Nat.{mod-lt}
 use native.Mathlib.Omega.{arith}
-use Rattle.text.proofs.Spells.{Glyphing, glyphing-none, glyphing-more, glyphing-done}
+use Rattle.text.proofs.Spells.{glyphing-none, glyphing-more, glyphing-done}
 use Rattle.text.proofs.spell_word.Goals as goal
 
 -- `text::spell_word` meets its contract: `Glyphing` holds of the digits that stand in the buffer.

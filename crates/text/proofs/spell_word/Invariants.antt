@@ -1,8 +1,4 @@
-use mathlib.Core.Path.{◌∙◌, sym}
-use Prim.Native.Nat.{◌-◌}
-use native.Mathlib.Nat.{mod-lt}
-use native.Mathlib.Omega.{arith}
-use Rattle.text.proofs.Spells.{Glyphing, glyphing-none, glyphing-more, glyphing-done}
+use Rattle.text.proofs.Spells.{Glyphing}
 use Rattle.text.proofs.spell_word.Given as goal
 
 abbrev pub invariant-loop-i : goal.invariant-loop-i

@@ -1,8 +1,6 @@
 use mathlib.Core.Path.{◌≡◌}
-use Prim.Native.Nat.{◌≤◌, ◌-◌}
 use native.Mathlib.Omega.{arith}
-use borrow.Author.Rules.{rules}
-use Rattle.text.proofs.Words.{word-beyond, word_none, word-done, Spelling, spelling-none, spelling-more, room_small}
+use Rattle.text.proofs.Words.{word-beyond, word_none, word-done, spelling-none, spelling-more, room_small}
 use Rattle.text.proofs.word.Goals as goal
 
 -- `text::word` meets its contract: `Spelling` holds of what was read, one digit more a turn.

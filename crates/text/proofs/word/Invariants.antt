@@ -1,8 +1,5 @@
-use mathlib.Core.Path.{◌≡◌}
 use Prim.Native.Nat.{◌≤◌, ◌-◌}
-use native.Mathlib.Omega.{arith}
-use borrow.Author.Rules.{rules}
-use Rattle.text.proofs.Words.{word-beyond, word_none, word-done, Spelling, spelling-none, spelling-more, room_small}
+use Rattle.text.proofs.Words.{Spelling}
 use Rattle.text.proofs.word.Given as goal
 
 abbrev pub invariant-loop-i : goal.invariant-loop-i

@@ -3,7 +3,6 @@ use Rattle.stream.specs.declared.UnisonCopy.{UnisonCopy}
 use Rattle.stream.specs.Pitch.{cut_to}
 use Rattle.voice.specs.declared.CopyChange.{CopyChange}
 use Rattle.voice.specs.Changes.{copy_changed}
-use borrow.Author.Rules.{rules}
 use Rattle.voice.proofs.change_copy.Goals as goal
 
 within : (u : UnisonCopy) (d e : CopyChange) → d ≡ e → copy_changed e u ≡ copy_changed d u

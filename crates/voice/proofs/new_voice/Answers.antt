@@ -1,4 +1,3 @@
-use borrow.Author.Rules.{rules}
 use Rattle.voice.specs.View.{shown, seen}
 use Rattle.voice.specs.New.{made_env, made_voice}
 use Rattle.voice.proofs.new_voice.Goals as goal

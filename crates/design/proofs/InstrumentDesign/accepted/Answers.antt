@@ -1,7 +1,5 @@
 use Rattle.design.proofs.Answers.{number-outside, not_finite, taken}
 use mathlib.Core.Path.{sym, ◌∙◌}
-use borrow.Author.Tests.{not-true, not-false}
-use borrow.Author.Rules.{rules}
 use Rattle.design.proofs.InstrumentDesign.accepted.Goals as goal
 
 pub returns-then-not-numbers_fit : goal.returns-then-not-numbers_fit

@@ -1,8 +1,6 @@
 use mathlib.Core.Path.{sym, ◌∙◌}
-use borrow.Author.Tests.{not-true, not-false}
 use Rattle.lists.specs.Choose.{and-fails, and_then}
 use Rattle.design.specs.Accepted.{floats_fit}
-use borrow.Author.Rules.{rules}
 use Rattle.design.proofs.InstrumentDesign.floats_fit.Goals as goal
 
 pub returns-then-not-all_finite : goal.returns-then-not-all_finite

@@ -1,8 +1,7 @@
 use mathlib.Core.Path.{sym, refl, ◌∙◌}
-use borrow.Author.Tests.{not-true, not-false, lt-leb, le-leb}
+use borrow.Author.Tests.{lt-leb, le-leb}
 use Rattle.lists.specs.Choose.{and-fails, and_then}
 use Rattle.design.specs.Accepted.{numbers_fit}
-use borrow.Author.Rules.{rules}
 use Rattle.design.proofs.InstrumentDesign.numbers_fit.Goals as goal
 
 pub returns-then-not-rate_fits : goal.returns-then-not-rate_fits

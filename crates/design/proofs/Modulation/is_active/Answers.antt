@@ -1,7 +1,6 @@
 use mathlib.Core.Path.{sym, ◌∙◌}
 use Rattle.lists.specs.Choose.{or-passes, or_else}
 use Rattle.design.specs.Accepted.{modulated}
-use borrow.Author.Rules.{rules}
 use Rattle.design.proofs.Modulation.is_active.Goals as goal
 
 pub returns-then-lfo_active : goal.returns-then-lfo_active

@@ -1,6 +1,5 @@
 use Rattle.envelope.specs.Gates.{is_active}
 use Rattle.envelope.proofs.Stages.{not-idle}
-use borrow.Author.Rules.{rules}
 use Rattle.envelope.proofs.EnvGen.active.Goals as goal
 
 pub returns-in-Idle : goal.returns-in-Idle

@@ -1,6 +1,5 @@
 use Rattle.envelope.specs.Gates.{is_faded}
 use Rattle.envelope.proofs.Stages.{not-sustain}
-use borrow.Author.Rules.{rules}
 use Rattle.envelope.proofs.EnvGen.faded.Goals as goal
 
 pub returns-in-Sustain : goal.returns-in-Sustain

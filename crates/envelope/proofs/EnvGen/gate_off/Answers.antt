@@ -4,7 +4,6 @@ use Rattle.lists.specs.Choose.{cond-true, cond-false}
 use Rattle.envelope.specs.declared.EnvGen.{EnvGen}
 use Rattle.envelope.specs.Gates.{gated_off, at, released, is_idle}
 use Rattle.envelope.proofs.Stages.{not-idle}
-use borrow.Author.Rules.{rules}
 use Rattle.envelope.proofs.EnvGen.gate_off.Goals as goal
 
 idle : (e : EnvGen) → is_idle e.stage ≡ true → e ≡ gated_off e

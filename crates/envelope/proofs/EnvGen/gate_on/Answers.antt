@@ -1,5 +1,4 @@
 use Rattle.envelope.specs.Gates.{gated_on}
-use borrow.Author.Rules.{rules}
 use Rattle.envelope.proofs.EnvGen.gate_on.Goals as goal
 
 pub returns : goal.returns

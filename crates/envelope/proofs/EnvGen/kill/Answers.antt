@@ -1,7 +1,6 @@
 use mathlib.Core.Path.{◌∙◌, ap}
 use lib.Ieee.{Float}
 use Rattle.envelope.specs.Gates.{killed, with_release, gated_off}
-use borrow.Author.Rules.{rules}
 use Rattle.envelope.proofs.EnvGen.kill.Goals as goal
 
 pub returns : goal.returns

@@ -1,8 +1,6 @@
 use mathlib.Core.Path.{sym, ◌∙◌}
-use borrow.Author.Tests.{not-true, not-false}
 use Rattle.envelope.specs.Start.{settled}
 use Rattle.envelope.proofs.Starts.{rate-float, new-rate, new-float, new-ready}
-use borrow.Author.Rules.{rules}
 use Rattle.envelope.proofs.EnvGen.new.Goals as goal
 
 pub returns-then-not-rate_fits : goal.returns-then-not-rate_fits

@@ -4,7 +4,6 @@ use Rattle.envelope.specs.declared.EnvGen.{EnvGen}
 use Rattle.envelope.specs.declared.Stage.{Stage}
 use Rattle.envelope.specs.Gates.{at}
 use Rattle.envelope.specs.Ticks.{ticked, ticked_in}
-use borrow.Author.Rules.{rules}
 use Rattle.envelope.proofs.EnvGen.tick.Goals as goal
 
 within : (e : EnvGen) (st : Stage) → e.stage ≡ st → ticked_in st e ≡ ticked e

@@ -1,7 +1,6 @@
 use mathlib.Core.Path.{sym, ◌∙◌}
 use Rattle.lists.specs.Choose.{cond-true, cond-false}
 use Rattle.envelope.specs.Ticks.{ticked_decay, fall}
-use borrow.Author.Rules.{rules}
 use Rattle.envelope.proofs.EnvGen.tick_decay.Goals as goal
 
 pub returns-then-self : goal.returns-then-self

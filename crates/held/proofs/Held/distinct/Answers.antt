@@ -1,10 +1,9 @@
 use mathlib.Core.Path.{◌≡◌, ap, sym, ◌∙◌}
-use Prim.Native.Nat.{ℕ, ◌≤◌, ◌-◌}
+use Prim.Native.Nat.{ℕ}
 use Rattle.lists.specs.Perms.{distinct}
 use Rattle.held.specs.View.{held_first}
-use Rattle.held.proofs.Flags.{Flagged, flags-start, flags-more, flags-fail, held-least}
+use Rattle.held.proofs.Flags.{flags-start, flags-more, flags-fail, held-least}
 use Rattle.held.proofs.Sizes.{notes-long}
-use borrow.Author.Rules.{rules}
 use native.Mathlib.Omega.{arith}
 use Rattle.held.proofs.Held.distinct.Goals as goal
 

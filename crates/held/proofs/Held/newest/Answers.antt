@@ -1,6 +1,5 @@
 use Rattle.held.proofs.Holding.{newest-none, newest-some}
 use Rattle.held.proofs.Sizes.{notes-long}
-use borrow.Author.Rules.{rules}
 use Rattle.held.proofs.Held.newest.Goals as goal
 
 pub returns-then-end-eq0 : goal.returns-then-end-eq0

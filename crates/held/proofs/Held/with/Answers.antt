@@ -1,6 +1,5 @@
 use Rattle.held.proofs.Holding.{with-room, with-full}
 use Rattle.held.proofs.Sizes.{notes-long}
-use borrow.Author.Rules.{rules}
 use Rattle.held.proofs.Held.with.Goals as goal
 
 pub returns-then-count-lt256 : goal.returns-then-count-lt256

@@ -1,9 +1,6 @@
 use mathlib.Core.Path.{sym, ◌∙◌}
-use mathlib.Core.Logic.{⊎_elim}
-use Prim.Native.Nat.{◌≤◌, ◌-◌}
-use Rattle.held.proofs.Holding.{Keeping, keeping_start, keeping-more, keeping-skip, keeping-end}
+use Rattle.held.proofs.Holding.{keeping_start, keeping-more, keeping-skip, keeping-end}
 use Rattle.held.proofs.Sizes.{notes-long}
-use borrow.Author.Rules.{rules}
 use native.Mathlib.Omega.{arith}
 use Rattle.held.proofs.Held.without.Goals as goal
 use Rattle.held.proofs.Held.without.Goals.{then-place-note, else-place-note}
@@ -17,8 +14,9 @@ loop-i-preserved c =
     let l = notes-long h c.well_formed.0 in
     let p = c.place.ensures in
     (elim c.if-place-note.branch [
-      then-place-note w ↦ (omega arith, rw (w.notes-is, w.count-is) (keeping-more h.notes _ _ c.loop-i.i c.loop-i.notes _ (omega arith) c.loop-i.invariant.1 (omega arith) (λ e. w.if-place-note.true (p.0 ∙ e))))
-      | else-place-note w ↦ (omega arith, rw (w.notes-is, w.count-is) (keeping-skip h.notes _ _ c.loop-i.i c.loop-i.notes _ (omega arith) c.loop-i.invariant.1 (sym p.0 ∙ w.if-place-note.false))) ])
+      | then-place-note w ↦ (omega arith, rw (w.notes-is, w.count-is) (keeping-more h.notes _ _ c.loop-i.i c.loop-i.notes _ (omega arith) c.loop-i.invariant.1 (omega arith) (λ e. w.if-place-note.true (p.0 ∙ e))))
+      | else-place-note w ↦ (omega arith, rw (w.notes-is, w.count-is) (keeping-skip h.notes _ _ c.loop-i.i c.loop-i.notes _ (omega arith) c.loop-i.invariant.1 (sym p.0 ∙ w.if-place-note.false)))
+    ])
 
 pub returns : goal.returns
 returns c =

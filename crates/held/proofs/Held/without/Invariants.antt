@@ -1,10 +1,5 @@
-use mathlib.Core.Path.{sym, ◌∙◌}
-use mathlib.Core.Logic.{⊎_elim}
 use Prim.Native.Nat.{◌≤◌, ◌-◌}
-use Rattle.held.proofs.Holding.{Keeping, keeping_start, keeping-more, keeping-skip, keeping-end}
-use Rattle.held.proofs.Sizes.{notes-long}
-use borrow.Author.Rules.{rules}
-use native.Mathlib.Omega.{arith}
+use Rattle.held.proofs.Holding.{Keeping}
 use Rattle.held.proofs.Held.without.Given as goal
 
 abbrev pub invariant-loop-i : goal.invariant-loop-i

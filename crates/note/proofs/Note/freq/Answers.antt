@@ -1,6 +1,5 @@
 use mathlib.Core.Path.{refl}
 use Rattle.note.specs.Frequency.{freq_of}
-use borrow.Author.Rules.{rules}
 use Rattle.note.proofs.Note.freq.Goals as goal
 
 pub returns : goal.returns

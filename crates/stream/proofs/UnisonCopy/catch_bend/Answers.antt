@@ -1,6 +1,5 @@
 use mathlib.Core.Path.{sym, ◌∙◌}
 use Rattle.lists.specs.Choose.{cond-true, cond-false}
-use borrow.Author.Rules.{rules}
 use Rattle.stream.proofs.UnisonCopy.catch_bend.Goals as goal
 
 pub returns-then-bend : goal.returns-then-bend

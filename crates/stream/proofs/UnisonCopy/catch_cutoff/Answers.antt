@@ -1,6 +1,5 @@
 use mathlib.Core.Path.{sym, ◌∙◌}
 use Rattle.lists.specs.Choose.{cond-true, cond-false}
-use borrow.Author.Rules.{rules}
 use Rattle.stream.proofs.UnisonCopy.catch_cutoff.Goals as goal
 
 pub returns-then-brightness : goal.returns-then-brightness

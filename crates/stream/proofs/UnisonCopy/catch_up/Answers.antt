@@ -1,7 +1,6 @@
 use mathlib.Core.Path.{◌∙◌, ap}
 use Rattle.stream.specs.Copies.{caught_up, unless_one}
 use Rattle.stream.specs.Pitch.{cut_to}
-use borrow.Author.Rules.{rules}
 use Rattle.stream.proofs.UnisonCopy.catch_up.Goals as goal
 
 pub returns : goal.returns

@@ -1,10 +1,8 @@
 use Rattle.stream.proofs.Glides.{glide-end}
 use mathlib.Core.Path.{refl}
-use Prim.Native.Nat.{◌≤◌, ◌-◌}
 use native.Mathlib.Omega.{arith}
-use lib.ListN.{length}
 use Rattle.stream.specs.Pitch.{pitched, stepped, heard, glide_step}
-use Rattle.stream.proofs.Glides.{Glide, glide-start, glide-more}
+use Rattle.stream.proofs.Glides.{glide-start, glide-more}
 use Rattle.stream.proofs.UnisonCopy.glide_block.Goals as goal
 
 pub loop-i-init : goal.loop-i-init

@@ -1,10 +1,6 @@
-use Rattle.stream.proofs.Glides.{glide-end}
-use mathlib.Core.Path.{refl}
 use Prim.Native.Nat.{◌≤◌, ◌-◌}
-use native.Mathlib.Omega.{arith}
 use lib.ListN.{length}
-use Rattle.stream.specs.Pitch.{pitched, stepped, heard, glide_step}
-use Rattle.stream.proofs.Glides.{Glide, glide-start, glide-more}
+use Rattle.stream.proofs.Glides.{Glide}
 use Rattle.stream.proofs.UnisonCopy.glide_block.Given as goal
 
 abbrev pub invariant-loop-i : goal.invariant-loop-i

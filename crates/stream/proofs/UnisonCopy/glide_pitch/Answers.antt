@@ -3,7 +3,6 @@ use mathlib.Core.Bool.{true, false}
 use lib.Ieee.{Float, is_nan}
 use Rattle.float32.specs.Numbers.{one, clamp_of}
 use Rattle.stream.specs.Pitch.{glided_to, pitched, coefficient, least_normal}
-use borrow.Author.Rules.{rules}
 use Rattle.stream.proofs.UnisonCopy.glide_pitch.Goals as goal
 
 snaps : (x : Float) → is_nan x ≡ true → one ≡ coefficient x

@@ -1,5 +1,4 @@
 use Rattle.stream.specs.Copies.{new_copy, pan_of, norm_of}
-use borrow.Author.Rules.{rules}
 use Rattle.stream.proofs.UnisonCopy.new.Goals as goal
 
 pub returns : goal.returns

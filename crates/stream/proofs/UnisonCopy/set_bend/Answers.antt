@@ -1,5 +1,4 @@
 use Rattle.stream.specs.Pitch.{bent, with_bend}
-use borrow.Author.Rules.{rules}
 use Rattle.stream.proofs.UnisonCopy.set_bend.Goals as goal
 
 pub returns : goal.returns

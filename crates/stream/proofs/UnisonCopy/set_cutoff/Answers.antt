@@ -1,5 +1,4 @@
 use Rattle.stream.specs.Pitch.{cut_to, with_cutoff}
-use borrow.Author.Rules.{rules}
 use Rattle.stream.proofs.UnisonCopy.set_cutoff.Goals as goal
 
 pub returns : goal.returns

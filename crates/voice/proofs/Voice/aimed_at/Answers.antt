@@ -1,6 +1,5 @@
 use mathlib.Core.Path.{◌≡◌, ap, ◌∙◌}
 use Prim.Native.Nat.{ℕ}
-use borrow.Author.Rules.{rules}
 use lib.Ieee.{Float, binary32, div}
 use Rattle.note.specs.Frequency.{freq_of}
 use Rattle.model.specs.Types as model

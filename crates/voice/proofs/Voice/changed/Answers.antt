@@ -2,7 +2,6 @@ use mathlib.Core.Path.{◌≡◌, sym, ap, ◌∙◌}
 use Rattle.voice.specs.View.{Seen}
 use Rattle.voice.specs.declared.VoiceChange.{VoiceChange}
 use Rattle.voice.specs.Changes.{voice_changed, on_seen}
-use borrow.Author.Rules.{rules}
 use Rattle.voice.proofs.Voice.changed.Goals as goal
 
 within : (x : Seen) (d e : VoiceChange) → d ≡ e → on_seen (voice_changed e) x ≡ on_seen (voice_changed d) x

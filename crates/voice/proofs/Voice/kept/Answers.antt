@@ -1,6 +1,5 @@
 use mathlib.Core.Path.{ap, ◌∙◌}
 use mathlib.Core.Bool.{false}
-use borrow.Author.Rules.{rules}
 use Rattle.model.specs.Voices.{with_sustained, struck_again}
 use Rattle.voice.specs.Changes.{on_seen}
 use Rattle.voice.proofs.Laws.{keep-legato, keep-struck}

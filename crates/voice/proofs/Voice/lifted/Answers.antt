@@ -1,6 +1,5 @@
 use mathlib.Core.Path.{ap, ◌∙◌}
 use mathlib.Core.Bool.{false}
-use borrow.Author.Rules.{rules}
 use Rattle.model.specs.Voices.{with_sustained}
 use Rattle.voice.specs.View.{shown, seen}
 use Rattle.voice.specs.Changes.{on_seen}

@@ -1,5 +1,4 @@
 use mathlib.Core.Path.{◌∙◌}
-use borrow.Author.Rules.{rules}
 use Rattle.voice.proofs.Laws.{off-down, off-up}
 use Rattle.voice.proofs.Voice.off.Goals as goal
 

@@ -1,7 +1,6 @@
 use mathlib.Core.Path.{◌∙◌}
 use Rattle.voice.specs.View.{shown, seen}
 use Rattle.voice.proofs.Laws.{off-stays, off-sounds}
-use borrow.Author.Rules.{rules}
 use Rattle.voice.proofs.Voice.off_sounding.Goals as goal
 
 pub returns-then-self : goal.returns-then-self

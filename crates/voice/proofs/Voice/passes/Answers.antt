@@ -3,7 +3,6 @@ use Rattle.model.specs.Types as model
 use Rattle.voice.specs.View.{shown}
 use Rattle.voice.specs.declared.VoiceTest.{VoiceTest}
 use Rattle.voice.specs.Changes.{test_of}
-use borrow.Author.Rules.{rules}
 use Rattle.voice.proofs.Voice.passes.Goals as goal
 
 within : (v : model.Voice) (d e : VoiceTest) → d ≡ e → test_of e v ≡ test_of d v

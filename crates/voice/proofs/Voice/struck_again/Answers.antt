@@ -1,4 +1,3 @@
-use borrow.Author.Rules.{rules}
 use Rattle.model.specs.Voices.{struck_again, with_voice}
 use Rattle.voice.specs.View.{shown, seen}
 use Rattle.voice.specs.Changes.{on_seen}

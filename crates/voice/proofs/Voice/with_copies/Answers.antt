@@ -1,9 +1,9 @@
 use mathlib.Core.Path.{◌≡◌, ap, ◌∙◌}
-use Prim.Native.Nat.{◌≤◌, ◌-◌, min}
+use Prim.Native.Nat.{min}
 use native.Mathlib.Omega.{arith}
 use borrow.Author.Rules.{rules}
 use lib.ListN.{length-take}
-use Rattle.lists.specs.Prefix.{mapped, mapped-none}
+use Rattle.lists.specs.Prefix.{mapped-none}
 use Rattle.voice.specs.View.{shown}
 use Rattle.voice.specs.Changes.{copy_changed}
 use Rattle.voice.proofs.Sizes.{copies-long}

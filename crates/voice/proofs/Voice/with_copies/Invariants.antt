@@ -1,13 +1,8 @@
-use mathlib.Core.Path.{◌≡◌, ap, ◌∙◌}
-use Prim.Native.Nat.{◌≤◌, ◌-◌, min}
-use native.Mathlib.Omega.{arith}
-use borrow.Author.Rules.{rules}
-use lib.ListN.{length-take}
-use Rattle.lists.specs.Prefix.{mapped, mapped-none}
-use Rattle.voice.specs.View.{shown}
+use mathlib.Core.Path.{◌≡◌}
+use Prim.Native.Nat.{◌≤◌, ◌-◌}
+use Rattle.lists.specs.Prefix.{mapped}
 use Rattle.voice.specs.Changes.{copy_changed}
-use Rattle.voice.proofs.Sizes.{copies-long}
-use Rattle.voice.proofs.Copied.{copied, copied_seen, copied_more}
+use Rattle.voice.proofs.Copied.{copied}
 use Rattle.voice.proofs.Voice.with_copies.Given as goal
 
 abbrev pub invariant-loop-j : goal.invariant-loop-j
