@@ -3,8 +3,17 @@
 #![tactic(auto)]
 
 ghost use Rattle.account.specs.Code.{CallsAreSteps};
+ghost use Rattle.account.specs.Methods.{HandleAccount};
+
+mod methods;
 
 // Every list of calls from an accepted start replies what `step` gives of the views, so the handle account is one of the code.
 pub fn calls_are_steps()
     ensures { CallsAreSteps }
+{}
+
+// Of every list of calls from an accepted start, each on the state that the one before returned: its replies, and every
+// state on the way.
+pub fn handle_account()
+    ensures { HandleAccount }
 {}

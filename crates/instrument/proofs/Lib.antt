@@ -9,3 +9,4 @@ pub mod Starts
 pub mod Queries
 pub mod Plans
 pub mod Mixes
+pub mod Levels

@@ -6,12 +6,14 @@ ghost use Rattle.std.specs.Prelude.{◌≡◌, true, ◌<◌};
 ghost use Rattle.design.specs.Accepted.{is_accepted};
 ghost use Rattle.model.specs.Types.{Control, Call};
 ghost use Rattle.model.specs.Formed.{frames_fit, block_fits};
+ghost use Rattle.model.specs.Laws.{TimesFit};
 ghost use Rattle.model.specs.Start.{empty_state};
 ghost use Rattle.model.specs.Queries.{is_active, active_voices};
 ghost use Rattle.design.specs.declared.PlayMode.TheVariants.{Mono};
 ghost use Rattle.model.specs.Notes.{mono_off, velocity_of, new_note, mono_on, new_handle_in};
 ghost use Rattle.instrument.specs.View.{view, counted, numbers_fit, formed as formed_state};
 ghost use Rattle.instrument.specs.Calls.{StartAs, last_handle, refused_as, answered_as, barred_in, barred_by, Gives, OnAs, CallAs};
+ghost use Rattle.instrument.specs.Levels.{StartLevels};
 ghost use Rattle.instrument.specs.Asked.{answer_of, asked_of, VoiceAs};
 
 use design::{DesignReply, InstrumentDesign, PlayMode, zero_design};
@@ -223,6 +225,18 @@ impl Instrument {
             },
         }
     }
+}
+
+// The theorem that the times of every design the code can hold are values of 32 bits.
+pub fn times_fit(design: InstrumentDesign)
+    ensures { TimesFit design }
+{}
+
+// The theorem that no list of calls from a start reaches a NaN level, of every design that the code can hold.
+pub fn levels_within(design: InstrumentDesign)
+    ensures { StartLevels design }
+{
+    times_fit(design);
 }
 
 fn answered(reply: Reply, state: Instrument) -> Outcome
