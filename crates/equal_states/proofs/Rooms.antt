@@ -12,8 +12,7 @@ use mir.Val.{Val}
 use denote.Array.{each}
 use denote.Laws.{Is}
 use denote.Shadow.{shadow}
-use denote.Struct.Declared.{row, shape}
-use denote.Struct.Struct.{Struct}
+use denote.Struct.Declared.{row}
 use Rattle.lists.specs.Choose.{both}
 use Rattle.lists.specs.Prefix.{shown-length}
 use Rattle.model.specs.Types as M
@@ -42,7 +41,7 @@ roomy-first (suc n) [] g = tt
 roomy-first (suc n) (v ∷ vs) g = (g.0, roomy-first n vs g.1)
 
 -- what owning a state tells of its arrays
-each-roomy : (vs : List Voice) (us : List Val) → shadow (each _ (Struct (shape VT.the_type)).own_val (map (VT.the_type).to vs) us) → Roomy vs
+each-roomy : (vs : List Voice) (us : List Val) → shadow (each (VT.the_row).Denot (VT.the_row).own_val vs us) → Roomy vs
 each-roomy [] us g = tt
 each-roomy (v ∷ vs) [] g = absurd g
 each-roomy (v ∷ vs) (u ∷ us) g = (copies-long v g.0, each-roomy vs us g.1)
