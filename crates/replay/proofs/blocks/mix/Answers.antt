@@ -1,7 +1,6 @@
 use mathlib.Core.Path.{sym}
 use native.Mathlib.Omega.{arith}
 use lib.Seq.{length-take-le}
-use borrow.Author.Rules.{rules}
 use Rattle.replay.proofs.blocks.mix.Goals as goal
 
 -- `blocks::mix` is safe: the parts that are lent have n and k places.

@@ -1,5 +1,4 @@
 use native.Mathlib.Omega.{arith}
-use borrow.Author.Rules.{rules}
 use Rattle.replay.proofs.Sizes.{rows-most}
 use Rattle.replay.proofs.blocks.rows.Goals as goal
 

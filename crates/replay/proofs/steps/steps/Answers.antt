@@ -1,7 +1,6 @@
 use mathlib.Core.Path.{sym}
 use native.Mathlib.Omega.{arith}
 use lib.Seq.{length-take-le}
-use borrow.Author.Rules.{rules}
 use Rattle.replay.proofs.steps.steps.Goals as goal
 
 -- `steps::steps` is safe: the part that is lent has `count` places.
