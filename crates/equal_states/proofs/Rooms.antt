@@ -47,13 +47,22 @@ each-roomy [] us g = tt
 each-roomy (v ∷ vs) [] g = absurd g
 each-roomy (v ∷ vs) (u ∷ us) g = (copies-long v g.0, each-roomy vs us g.1)
 
+-- the array owns each voice as its row, which is its struct
+as_structs : (vs : List Voice) (us : List Val)
+    → shadow (each (VT.the_row).Denot (VT.the_row).own_val vs us)
+    → shadow (each _ (Struct (shape VT.the_type)).own_val (map (VT.the_type).to vs) us)
+as_structs [] [] g = g
+as_structs [] (u ∷ us) g = g
+as_structs (v ∷ vs) [] g = g
+as_structs (v ∷ vs) (u ∷ us) g = (g.0, as_structs vs us g.1)
+
 pub record Sized (s : Instrument) : Type 0 where
   pub voices : length s.table.voices ≡ 64
   pub held : length s.held.notes ≡ 256
   pub roomy : Roomy s.table.voices
 
 pub sized : (s : Instrument) {us : List Val} → Is (row IT.the_type) s us → Sized s
-sized s g = record { voices = voices-long s g; held = held-long s g; roomy = each-roomy s.table.voices _ g.1.1.1.0.1.1.0.1.1 }
+sized s g = record { voices = voices-long s g; held = held-long s g; roomy = each-roomy s.table.voices _ (as_structs s.table.voices _ g.1.1.1.0.1.1.0.1.1) }
 
 -- a count within its array is how many copies are shown
 shown-copies : (v : Voice) → length v.copies ≡ 8 → leb v.copy_count 8 ≡ true → length (shown v).copies ≡ v.copy_count

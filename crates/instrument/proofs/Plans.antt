@@ -10,7 +10,6 @@ use lib.Ieee.{Float, binary32, mul, lt, in_float}
 use lib.IntN.{pos}
 use lib.ListN.{length}
 use Rattle.lists.specs.Choose.{both, cond-true, cond-false}
-use Rattle.lists.specs.Count.{count}
 use Rattle.float32.specs.Numbers.{zero as +0}
 use Rattle.stream.specs.declared.UnisonCopy.{UnisonCopy}
 use Rattle.stream.specs.Pitch.{bent, cut_to, glided}

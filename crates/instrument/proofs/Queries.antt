@@ -17,7 +17,6 @@ use Rattle.table.specs.View.{voices_in}
 use Rattle.instrument.specs.View.{view, counted, formed}
 use Rattle.instrument.specs.Asked.{asked_of, VoiceAs}
 use Rattle.instrument.specs.declared.Instrument.{Instrument}
-use Rattle.instrument.specs.declared.Answer.{Answer}
 use Rattle.instrument.specs.declared.Answer.TheVariants.{Handle, NoHandle, Refused}
 use Rattle.instrument.proofs.Calls.{counts}
 use Rattle.instrument.proofs.Formed.{voices-count}

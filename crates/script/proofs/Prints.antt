@@ -170,7 +170,8 @@ pub rows-length-done : (vs : List Voice) (n m i : ℕ) → length vs ≡ 64 → 
 rows-length-done vs n m i s e h g p =
     let f = rows-view vs n m i s e h g in
     let q : length (flat_map row (take i vs)) ≡ length (flat_map row_text (voices_of (seen_first n vs))) = ap length f in
-    let l : length (rows_text (voices_of (seen_first n vs))) ≡ 7 + length (flat_map row_text (voices_of (seen_first n vs))) = length-append voices_word (flat_map row_text (voices_of (seen_first n vs))) in
+    let l : length (rows_text (voices_of (seen_first n vs))) ≡ 7 + length (flat_map row_text (voices_of (seen_first n vs))) =
+    length-append voices_word (flat_map row_text (voices_of (seen_first n vs))) in
     omega arith
 
 pub table-length : (vs : List model.Voice) → length (rows_text vs) ≤ 3655 → length (table_text vs) ≤ 4096

@@ -1,4 +1,3 @@
-use borrow.Author.Tests.{not-true, not-false}
 use Rattle.instrument.proofs.Parts.{barred-0, barred-1, barred-5}
 use Rattle.instrument.proofs.barred.Goals as goal
 

@@ -1,5 +1,4 @@
 use Rattle.instrument.proofs.Parts.{open_none, open-some}
-use borrow.Author.Rules.{rules}
 use Rattle.instrument.proofs.block_fits.Goals as goal
 
 pub returns-then-frames-eq0 : goal.returns-then-frames-eq0

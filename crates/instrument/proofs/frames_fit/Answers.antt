@@ -1,6 +1,5 @@
 use mathlib.Core.Path.{sym, ◌∙◌}
 use Rattle.instrument.proofs.Parts.{frames-none, frames-few, frames-many}
-use borrow.Author.Rules.{rules}
 use Rattle.instrument.proofs.frames_fit.Goals as goal
 
 pub returns-then-frames-lt1 : goal.returns-then-frames-lt1

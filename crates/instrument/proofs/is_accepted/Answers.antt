@@ -1,6 +1,5 @@
 use mathlib.Core.Path.{sym, ◌∙◌}
 use Rattle.instrument.proofs.Parts.{accepted-yes, accepted-no}
-use borrow.Author.Rules.{rules}
 use Rattle.instrument.proofs.is_accepted.Goals as goal
 
 pub returns-in-Accepted : goal.returns-in-Accepted

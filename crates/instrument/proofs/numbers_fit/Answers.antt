@@ -1,8 +1,5 @@
-use mathlib.Core.Path.{◌≡◌, sym, ◌∙◌}
-use mathlib.Core.Bool.{true}
-use borrow.Author.Tests.{le-leb, lt-leb, not-true, not-false}
-use borrow.Author.Rules.{rules}
-use Rattle.design.specs.Accepted.{is_accepted}
+use mathlib.Core.Path.{sym, ◌∙◌}
+use borrow.Author.Tests.{le-leb, lt-leb}
 use Rattle.lists.specs.Choose.{and-fails, and_then}
 use Rattle.instrument.specs.View.{numbers_fit}
 use Rattle.instrument.proofs.numbers_fit.Goals as goal

@@ -1,6 +1,5 @@
 use mathlib.Core.Path.{sym, ◌∙◌}
 use Rattle.instrument.proofs.Ons.{velocity-none, velocity-some}
-use borrow.Author.Rules.{rules}
 use Rattle.instrument.proofs.velocity_of.Goals as goal
 
 pub returns-then-is_nan : goal.returns-then-is_nan

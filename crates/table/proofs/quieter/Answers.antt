@@ -1,6 +1,5 @@
 use Rattle.model.specs.Voices.{quieter}
 use Rattle.voice.specs.View.{shown}
-use borrow.Author.Rules.{rules}
 use Rattle.table.proofs.quieter.Goals as goal
 
 pub returns : goal.returns

@@ -1,6 +1,5 @@
 use native.Mathlib.Numerals.{add-one}
 use borrow.Author.Tests.{eq-eqb, ne_eqb}
-use borrow.Author.Rules.{rules}
 use Rattle.table.proofs.quietest_next.Goals as goal
 
 pub returns-then-k-i : goal.returns-then-k-i

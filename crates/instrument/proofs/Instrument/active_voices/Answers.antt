@@ -1,8 +1,6 @@
 use mathlib.Core.Path.{sym, ◌∙◌}
-use borrow.Author.Tests.{not-true, not-false}
 use Rattle.instrument.proofs.Queries.{voices-refused, voices-found}
 use Rattle.instrument.proofs.Sizes.{voices-long}
-use borrow.Author.Rules.{rules}
 use Rattle.instrument.proofs.Instrument.active_voices.Goals as goal
 
 pub returns-then-not-well_formed : goal.returns-then-not-well_formed

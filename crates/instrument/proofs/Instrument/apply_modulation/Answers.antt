@@ -1,7 +1,6 @@
 use mathlib.Core.Path.{refl}
 use Rattle.instrument.specs.Calls.{moved_as}
 use Rattle.instrument.proofs.Plans.{applies}
-use borrow.Author.Rules.{rules}
 use Rattle.instrument.proofs.Instrument.apply_modulation.Goals as goal
 
 pub returns : goal.returns

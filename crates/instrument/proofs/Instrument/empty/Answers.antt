@@ -1,6 +1,5 @@
 use mathlib.Core.Path.{refl}
 use Rattle.instrument.specs.View.{view, roomy, counted}
-use borrow.Author.Rules.{rules}
 use Rattle.instrument.proofs.Instrument.empty.Goals as goal
 
 pub returns : goal.returns

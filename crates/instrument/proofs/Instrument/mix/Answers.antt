@@ -1,9 +1,6 @@
-use mathlib.Core.Path.{◌≡◌, sym, ◌∙◌}
+use mathlib.Core.Path.{sym, ◌∙◌}
 use native.Mathlib.Omega.{arith}
-use borrow.Author.Rules.{rules}
-use lib.ListN.{length}
-use Rattle.model.specs.Types.{Call}
-use Rattle.instrument.specs.Calls.{refusal_of, blocked_as}
+use Rattle.instrument.specs.Calls.{blocked_as}
 use Rattle.instrument.proofs.Sizes.{voices-long, held-long}
 use Rattle.instrument.proofs.Calls.{few-voices}
 use Rattle.instrument.proofs.Mixes.{mix-number, mix-refused, mix-played, mix-done}

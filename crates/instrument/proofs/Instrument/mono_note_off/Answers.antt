@@ -2,7 +2,6 @@ use Rattle.instrument.specs.Calls.{placed_as}
 use Rattle.instrument.proofs.Calls.{free}
 use Rattle.instrument.proofs.Offs.{mono-none, mono-last, mono-back}
 use Rattle.instrument.proofs.Sizes.{held-long}
-use borrow.Author.Rules.{rules}
 use Rattle.instrument.proofs.Instrument.mono_note_off.Goals as goal
 
 pub returns-then-rest-self : goal.returns-then-rest-self

@@ -3,7 +3,6 @@ use Rattle.instrument.specs.Calls.{placed_as}
 use Rattle.instrument.proofs.Calls.{free}
 use Rattle.instrument.proofs.Ons.{spawn-ready, with-256, mono-kept, mono-spent, mono-new}
 use Rattle.instrument.proofs.Sizes.{voices-long, held-long, next_fits}
-use borrow.Author.Rules.{rules}
 use Rattle.instrument.proofs.Instrument.mono_note_on.Goals as goal
 
 pub returns-then-place-self : goal.returns-then-place-self

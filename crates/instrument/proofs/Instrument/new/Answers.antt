@@ -1,5 +1,4 @@
 use Rattle.instrument.proofs.Starts.{start-accepted, start-refused}
-use borrow.Author.Rules.{rules}
 use Rattle.instrument.proofs.Instrument.new.Goals as goal
 
 pub returns-in-Accepted : goal.returns-in-Accepted

@@ -3,7 +3,6 @@ use Rattle.instrument.proofs.Calls.{is-poly, Free, free, barred-by, barred-call}
 use Rattle.instrument.specs.Calls.{placed_as}
 use Rattle.instrument.proofs.Offs.{poly-none, poly-one, off-poly, off-mono}
 use Rattle.instrument.proofs.Sizes.{voices-long}
-use borrow.Author.Rules.{rules}
 use Rattle.instrument.proofs.Instrument.note_off.Goals as goal
 
 pub returns-then-number-ne0 : goal.returns-then-number-ne0

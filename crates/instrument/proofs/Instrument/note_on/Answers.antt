@@ -3,7 +3,6 @@ use Rattle.instrument.specs.Calls.{placed_as}
 use Rattle.instrument.proofs.Calls.{is-poly, Free, free, barred-by, counts, barred-call}
 use Rattle.instrument.proofs.Ons.{spawn-ready, on-off, off-is, on-mono, poly-spent, poly-new}
 use Rattle.instrument.proofs.Sizes.{voices-long, held-long, next_fits}
-use borrow.Author.Rules.{rules}
 use Rattle.instrument.proofs.Instrument.note_on.Goals as goal
 
 pub returns-then-level : goal.returns-then-level

@@ -1,8 +1,5 @@
-use mathlib.Core.Path.{◌≡◌, sym, ◌∙◌}
-use mathlib.Core.Logic.{⊎_elim}
-use borrow.Author.Rules.{rules}
-use Rattle.model.specs.Types.{Call}
-use Rattle.instrument.specs.Calls.{refusal_of, blocked_as}
+use mathlib.Core.Path.{sym, ◌∙◌}
+use Rattle.instrument.specs.Calls.{blocked_as}
 use Rattle.instrument.proofs.Sizes.{voices-long, held-long}
 use Rattle.instrument.proofs.Calls.{free, few-voices, barred-by}
 use Rattle.instrument.proofs.Plans.{modulated-on, modulated-off, plan-number, plan-refused, plan-fits, plan-done}

@@ -3,7 +3,6 @@ use Rattle.instrument.proofs.Calls.{Free, free, barred-by, barred-call}
 use Rattle.instrument.specs.Calls.{placed_as}
 use Rattle.instrument.proofs.Controls.{release-none, release-one}
 use Rattle.instrument.proofs.Sizes.{voices-long}
-use borrow.Author.Rules.{rules}
 use Rattle.instrument.proofs.Instrument.release.Goals as goal
 
 pub returns-then-number-ne0 : goal.returns-then-number-ne0

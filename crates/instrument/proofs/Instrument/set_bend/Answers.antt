@@ -2,7 +2,6 @@ use mathlib.Core.Path.{refl, sym, ◌∙◌}
 use Rattle.instrument.proofs.Calls.{Free, free, barred-by, barred-call}
 use Rattle.instrument.specs.Calls.{tuned_as}
 use Rattle.instrument.proofs.Controls.{bend-call}
-use borrow.Author.Rules.{rules}
 use Rattle.instrument.proofs.Instrument.set_bend.Goals as goal
 
 pub returns-then-number-ne0 : goal.returns-then-number-ne0

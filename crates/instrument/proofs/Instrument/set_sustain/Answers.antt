@@ -2,7 +2,6 @@ use mathlib.Core.Path.{refl, sym, ◌∙◌}
 use Rattle.instrument.proofs.Calls.{Free, free, barred-by, barred-call}
 use Rattle.instrument.specs.Calls.{placed_as}
 use Rattle.instrument.proofs.Controls.{pedal-down-call, pedal-up-call}
-use borrow.Author.Rules.{rules}
 use Rattle.instrument.proofs.Instrument.set_sustain.Goals as goal
 
 pub returns-then-number-ne0 : goal.returns-then-number-ne0

@@ -1,6 +1,4 @@
 use mathlib.Core.Path.{◌∙◌}
-use borrow.Author.Rules.{rules}
-use borrow.Author.Tests.{not-true, not-false}
 use Rattle.voice.proofs.Born.{new-voice-is}
 use Rattle.instrument.specs.View.{view}
 use Rattle.instrument.specs.Calls.{placed_as}

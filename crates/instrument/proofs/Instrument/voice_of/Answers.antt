@@ -1,10 +1,8 @@
 use mathlib.Core.Path.{◌≡◌, sym, ◌∙◌}
 use mathlib.Core.Bool.{true}
-use borrow.Author.Tests.{not-true, not-false}
 use Rattle.instrument.proofs.Queries.{voice-refused, voice-none, voice-some}
 use Rattle.instrument.specs.View.{formed}
 use Rattle.instrument.proofs.Sizes.{voices-long}
-use borrow.Author.Rules.{rules}
 use Rattle.instrument.proofs.Instrument.voice_of.Goals as goal
 
 pub returns-then-not-well_formed : goal.returns-then-not-well_formed

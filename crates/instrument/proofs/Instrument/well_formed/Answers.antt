@@ -1,9 +1,7 @@
 use mathlib.Core.Path.{sym, ◌∙◌}
-use borrow.Author.Tests.{not-true, not-false}
 use Rattle.lists.specs.Choose.{and-fails, and_then}
 use Rattle.instrument.proofs.Formed.{asked-formed}
 use Rattle.instrument.proofs.Sizes.{voices-long, held-long}
-use borrow.Author.Rules.{rules}
 use Rattle.instrument.proofs.Instrument.well_formed.Goals as goal
 
 pub returns-then-not-numbers_fit : goal.returns-then-not-numbers_fit

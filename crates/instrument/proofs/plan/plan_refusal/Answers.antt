@@ -3,8 +3,6 @@ use Prim.Native.Nat.{ℕ, ◌*◌, ◌≤◌}
 use lib.Dec.{eqb}
 use native.Mathlib.Nat.{mul-le-mul}
 use native.Mathlib.Omega.{arith}
-use borrow.Author.Rules.{rules}
-use borrow.Author.Tests.{not-true, not-false}
 use Rattle.design.specs.Accepted.{copies_of}
 use Rattle.instrument.proofs.Plans.{plan-barred, plan-4, plan-0, plan-7}
 use Rattle.instrument.proofs.plan.plan_refusal.Goals as goal

@@ -1,6 +1,5 @@
 use Rattle.envelope.proofs.Starts.{rate-float}
 use Rattle.instrument.proofs.Plans.{frames-float}
-use borrow.Author.Rules.{rules}
 use Rattle.instrument.proofs.plan.step_of.Goals as goal
 
 pub int_to_float-result : goal.int_to_float-result

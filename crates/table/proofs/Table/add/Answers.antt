@@ -1,13 +1,11 @@
 use mathlib.Core.Path.{◌≡◌, refl, sym, ◌∙◌}
-use mathlib.Core.Logic.{⊎_elim}
-use Prim.Native.Nat.{◌≤◌, ◌<◌, ◌-◌}
+use Prim.Native.Nat.{◌≤◌}
 use native.Mathlib.Omega.{arith}
-use borrow.Author.Rules.{rules}
 use lib.ListN.{length}
 use Rattle.table.specs.View.{seen_in}
 use Rattle.table.specs.declared.Table.{Table}
 use Rattle.table.proofs.Adding.{Killed, kill-none, kill-inside, kill-one, Taken, take_none, take-inside, take-one, added}
-use Rattle.table.proofs.Edits.{seen-least, Shifted, shift-start, shift-turn}
+use Rattle.table.proofs.Edits.{seen-least, shift-start, shift-turn}
 use Rattle.table.proofs.Sizes.{voices-long}
 use Rattle.table.proofs.Table.add.Goals as goal
 use Rattle.table.proofs.Table.add.Goals.{then-reached, else-reached, then-reached-2+else-loop-i-test, else-reached-2}
@@ -66,9 +64,10 @@ offset_bounds-self-victim-then-reached-2-2 c =
     let long : length t.voices ≡ 64 = voices-long c.args.self c.well_formed.0 in
     let few : t.count ≤ 64 = omega arith in
     let killed : Killed c.args.max (seen_in t) c.if-reached.self c.if-reached.killed =
-        (elim c.if-reached.branch [
-      then-reached w ↦ rw (w.self-is, w.killed-is) (kill-one _ t long few _ c.count_of.ensures (sym c.reached.ensures ∙ w.if-reached.true) _ w.quietest_sounding-victim.ensures _ w.changed.ensures)
-      | else-reached w ↦ rw (w.self-is, w.killed-is) (kill-none _ t long few _ c.count_of.ensures (sym c.reached.ensures ∙ w.if-reached.false)) ]) in
+    (elim c.if-reached.branch [
+      | then-reached w ↦ rw (w.self-is, w.killed-is) (kill-one _ t long few _ c.count_of.ensures (sym c.reached.ensures ∙ w.if-reached.true) _ w.quietest_sounding-victim.ensures _ w.changed.ensures)
+      | else-reached w ↦ rw (w.self-is, w.killed-is) (kill-none _ t long few _ c.count_of.ensures (sym c.reached.ensures ∙ w.if-reached.false))
+    ]) in
     let k = killed.table in
     let out = take-inside _ c.if-reached.self k.array k.few (sym c.reached-2.ensures ∙ c.if-reached-2.true) _ c.quietest-victim.ensures in
     omega (arith, out, k.few)
@@ -79,9 +78,10 @@ bounds-self-victim-then-reached-2-2 c =
     let long : length t.voices ≡ 64 = voices-long c.args.self c.well_formed.0 in
     let few : t.count ≤ 64 = omega arith in
     let killed : Killed c.args.max (seen_in t) c.if-reached.self c.if-reached.killed =
-        (elim c.if-reached.branch [
-      then-reached w ↦ rw (w.self-is, w.killed-is) (kill-one _ t long few _ c.count_of.ensures (sym c.reached.ensures ∙ w.if-reached.true) _ w.quietest_sounding-victim.ensures _ w.changed.ensures)
-      | else-reached w ↦ rw (w.self-is, w.killed-is) (kill-none _ t long few _ c.count_of.ensures (sym c.reached.ensures ∙ w.if-reached.false)) ]) in
+    (elim c.if-reached.branch [
+      | then-reached w ↦ rw (w.self-is, w.killed-is) (kill-one _ t long few _ c.count_of.ensures (sym c.reached.ensures ∙ w.if-reached.true) _ w.quietest_sounding-victim.ensures _ w.changed.ensures)
+      | else-reached w ↦ rw (w.self-is, w.killed-is) (kill-none _ t long few _ c.count_of.ensures (sym c.reached.ensures ∙ w.if-reached.false))
+    ]) in
     let k = killed.table in
     let out = take-inside _ c.if-reached.self k.array k.few (sym c.reached-2.ensures ∙ c.if-reached-2.true) _ c.quietest-victim.ensures in
     omega (arith, out, k.few)
@@ -92,9 +92,10 @@ overflow_add-i c =
     let long : length t.voices ≡ 64 = voices-long c.args.self c.well_formed.0 in
     let few : t.count ≤ 64 = omega arith in
     let killed : Killed c.args.max (seen_in t) c.if-reached.self c.if-reached.killed =
-        (elim c.if-reached.branch [
-      then-reached w ↦ rw (w.self-is, w.killed-is) (kill-one _ t long few _ c.count_of.ensures (sym c.reached.ensures ∙ w.if-reached.true) _ w.quietest_sounding-victim.ensures _ w.changed.ensures)
-      | else-reached w ↦ rw (w.self-is, w.killed-is) (kill-none _ t long few _ c.count_of.ensures (sym c.reached.ensures ∙ w.if-reached.false)) ]) in
+    (elim c.if-reached.branch [
+      | then-reached w ↦ rw (w.self-is, w.killed-is) (kill-one _ t long few _ c.count_of.ensures (sym c.reached.ensures ∙ w.if-reached.true) _ w.quietest_sounding-victim.ensures _ w.changed.ensures)
+      | else-reached w ↦ rw (w.self-is, w.killed-is) (kill-none _ t long few _ c.count_of.ensures (sym c.reached.ensures ∙ w.if-reached.false))
+    ]) in
     let k = killed.table in
     let out = take-inside _ c.if-reached.self k.array k.few (sym c.reached-2.ensures ∙ c.if-reached-2.true) _ c.quietest-victim.ensures in
     omega (arith, out, k.few)
@@ -105,9 +106,10 @@ loop-i-init c =
     let long : length t.voices ≡ 64 = voices-long c.args.self c.well_formed.0 in
     let few : t.count ≤ 64 = omega arith in
     let killed : Killed c.args.max (seen_in t) c.if-reached.self c.if-reached.killed =
-        (elim c.if-reached.branch [
-      then-reached w ↦ rw (w.self-is, w.killed-is) (kill-one _ t long few _ c.count_of.ensures (sym c.reached.ensures ∙ w.if-reached.true) _ w.quietest_sounding-victim.ensures _ w.changed.ensures)
-      | else-reached w ↦ rw (w.self-is, w.killed-is) (kill-none _ t long few _ c.count_of.ensures (sym c.reached.ensures ∙ w.if-reached.false)) ]) in
+    (elim c.if-reached.branch [
+      | then-reached w ↦ rw (w.self-is, w.killed-is) (kill-one _ t long few _ c.count_of.ensures (sym c.reached.ensures ∙ w.if-reached.true) _ w.quietest_sounding-victim.ensures _ w.changed.ensures)
+      | else-reached w ↦ rw (w.self-is, w.killed-is) (kill-none _ t long few _ c.count_of.ensures (sym c.reached.ensures ∙ w.if-reached.false))
+    ]) in
     let k = killed.table in
     let out = take-inside _ c.if-reached.self k.array k.few (sym c.reached-2.ensures ∙ c.if-reached-2.true) _ c.quietest-victim.ensures in
     (k.few, out, shift-start c.if-reached.self k.array _ (omega (arith, out, k.few)) _)
@@ -118,9 +120,10 @@ loop-i-preserved c =
     let long : length t.voices ≡ 64 = voices-long c.args.self c.well_formed.0 in
     let few : t.count ≤ 64 = omega arith in
     let killed : Killed c.args.max (seen_in t) c.if-reached.self c.if-reached.killed =
-        (elim c.if-reached.branch [
-      then-reached w ↦ rw (w.self-is, w.killed-is) (kill-one _ t long few _ c.count_of.ensures (sym c.reached.ensures ∙ w.if-reached.true) _ w.quietest_sounding-victim.ensures _ w.changed.ensures)
-      | else-reached w ↦ rw (w.self-is, w.killed-is) (kill-none _ t long few _ c.count_of.ensures (sym c.reached.ensures ∙ w.if-reached.false)) ]) in
+    (elim c.if-reached.branch [
+      | then-reached w ↦ rw (w.self-is, w.killed-is) (kill-one _ t long few _ c.count_of.ensures (sym c.reached.ensures ∙ w.if-reached.true) _ w.quietest_sounding-victim.ensures _ w.changed.ensures)
+      | else-reached w ↦ rw (w.self-is, w.killed-is) (kill-none _ t long few _ c.count_of.ensures (sym c.reached.ensures ∙ w.if-reached.false))
+    ]) in
     let k = killed.table in
     let i = c.loop-i.invariant in
     (i.0, i.1, shift-turn c.if-reached.self k.array _ (omega (arith, i.1, k.few)) _ c.loop-i.self c.loop-i.i i.2 c.loop-i-test.true)
@@ -131,14 +134,15 @@ returns c =
     let long : length t.voices ≡ 64 = voices-long c.args.self c.well_formed.0 in
     let few : t.count ≤ 64 = omega arith in
     let killed : Killed c.args.max (seen_in t) c.if-reached.self c.if-reached.killed =
-        (elim c.if-reached.branch [
-      then-reached w ↦ rw (w.self-is, w.killed-is) (kill-one _ t long few _ c.count_of.ensures (sym c.reached.ensures ∙ w.if-reached.true) _ w.quietest_sounding-victim.ensures _ w.changed.ensures)
-      | else-reached w ↦ rw (w.self-is, w.killed-is) (kill-none _ t long few _ c.count_of.ensures (sym c.reached.ensures ∙ w.if-reached.false)) ]) in
+    (elim c.if-reached.branch [
+      | then-reached w ↦ rw (w.self-is, w.killed-is) (kill-one _ t long few _ c.count_of.ensures (sym c.reached.ensures ∙ w.if-reached.true) _ w.quietest_sounding-victim.ensures _ w.changed.ensures)
+      | else-reached w ↦ rw (w.self-is, w.killed-is) (kill-none _ t long few _ c.count_of.ensures (sym c.reached.ensures ∙ w.if-reached.false))
+    ]) in
     let k = killed.table in
     let taken : Taken c.args.max (seen_in c.if-reached.self) c.if-reached-2.self c.if-reached-2.taken =
-        elim c.if-reached-2.branch [
-          then-reached-2+else-loop-i-test w ↦ rw (w.self-is, w.taken-is)
-              (take-one _ c.if-reached.self k.array k.few (sym c.reached-2.ensures ∙ w.if-reached-2.true) _ w.quietest-victim.ensures w.loop-i.self w.loop-i.i w.loop-i.invariant.2 w.loop-i-test.false)
-          | else-reached-2 w ↦ rw (w.self-is, w.taken-is) (take_none _ c.if-reached.self k.array k.few (sym c.reached-2.ensures ∙ w.if-reached-2.false)) ] in
+    elim c.if-reached-2.branch [
+      | then-reached-2+else-loop-i-test w ↦ rw (w.self-is, w.taken-is)
+          (take-one _ c.if-reached.self k.array k.few (sym c.reached-2.ensures ∙ w.if-reached-2.true) _ w.quietest-victim.ensures w.loop-i.self w.loop-i.i w.loop-i.invariant.2 w.loop-i-test.false)
+      | else-reached-2 w ↦ rw (w.self-is, w.taken-is) (take_none _ c.if-reached.self k.array k.few (sym c.reached-2.ensures ∙ w.if-reached-2.false))
+    ] in
     added _ c.args.self _ c.smaller.result (seen-least c.args.self long _ c.smaller.ensures) _ _ _ _ _ killed taken c.push-table.ensures refl refl
-

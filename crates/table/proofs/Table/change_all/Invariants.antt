@@ -1,10 +1,6 @@
 use Prim.Native.Nat.{◌≤◌, ◌-◌}
 use Rattle.voice.specs.Changes.{voice_changed}
-use Rattle.table.specs.declared.Table.{Table}
-use Rattle.table.proofs.Edits.{Walked, walk_start, walk_turn, walk_end}
-use Rattle.table.proofs.Sizes.{voices-long}
-use borrow.Author.Rules.{rules}
-use native.Mathlib.Omega.{arith}
+use Rattle.table.proofs.Edits.{Walked}
 use Rattle.table.proofs.Table.change_all.Given as goal
 
 abbrev pub invariant-loop-i : goal.invariant-loop-i

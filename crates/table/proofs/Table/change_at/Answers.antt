@@ -1,6 +1,5 @@
 use Rattle.table.proofs.Edits.{holds-changed, holds-unchanged}
 use Rattle.table.proofs.Sizes.{voices-long}
-use borrow.Author.Rules.{rules}
 use Rattle.table.proofs.Table.change_at.Goals as goal
 
 pub returns-then-place-self : goal.returns-then-place-self

@@ -1,12 +1,7 @@
-use mathlib.Core.Path.{◌≡◌, refl, ◌∙◌}
-use Prim.Native.Nat.{◌≤◌, ◌-◌}
-use lib.ListN.{take}
-use Rattle.lists.specs.Count.{one_if-le, count}
-use Rattle.voice.specs.Changes.{test_of}
-use Rattle.table.specs.View.{voices_in}
+use mathlib.Core.Path.{refl, ◌∙◌}
+use Rattle.lists.specs.Count.{one_if-le}
 use Rattle.table.proofs.Searches.{count_turn, count-end}
 use Rattle.table.proofs.Sizes.{voices-long}
-use borrow.Author.Rules.{rules}
 use native.Mathlib.Omega.{arith}
 use Rattle.table.proofs.Table.count_of.Goals as goal
 

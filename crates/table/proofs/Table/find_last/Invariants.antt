@@ -1,13 +1,9 @@
 use mathlib.Core.Path.{◌≡◌}
-use Prim.Native.Nat.{◌≤◌, ◌-◌, ◌+◌}
+use Prim.Native.Nat.{◌≤◌}
 use lib.ListN.{drop}
 use Rattle.lists.specs.Count.{count}
 use Rattle.voice.specs.Changes.{test_of}
 use Rattle.table.specs.View.{voices_in}
-use Rattle.table.proofs.Searches.{last-here, last-before, last-start, last-nowhere}
-use Rattle.table.proofs.Sizes.{voices-long}
-use borrow.Author.Rules.{rules}
-use native.Mathlib.Omega.{arith}
 use Rattle.table.proofs.Table.find_last.Given as goal
 
 abbrev pub invariant-loop-i : goal.invariant-loop-i

@@ -1,6 +1,5 @@
 use borrow.Author.Tests.{not-true, not-false}
 use Rattle.table.proofs.Fits.{fits-loud, fits-mode, fits_each, fits-rise, fits-once}
-use borrow.Author.Rules.{rules}
 use Rattle.table.proofs.Table.fits.Goals as goal
 
 pub returns-then-design-looked : goal.returns-then-design-looked

@@ -1,10 +1,7 @@
 use mathlib.Core.Path.{refl}
-use mathlib.Core.Logic.{⊎_elim}
-use Prim.Native.Nat.{◌+◌, ◌-◌, ◌*◌, ◌≤◌}
+use Prim.Native.Nat.{◌+◌}
 use native.Mathlib.Nat.{mul-le-mul}
 use native.Mathlib.Omega.{arith}
-use borrow.Author.Rules.{rules}
-use lib.ListN.{length}
 use Rattle.curves.proofs.Standing.{stands-glides}
 use Rattle.table.proofs.Sizes.{voices-long}
 use Rattle.table.proofs.Gliding.{Gliding, gliding-start, glide-moves, glide-stands, glided-table}
@@ -50,10 +47,11 @@ loop-i-preserved c =
     let next : Gliding c.smaller-n.result c.smaller-count.result c.args.self.voices c.args.curve.now
     c.if-stands.self.voices c.if-stands.curve c.smaller-end.result (c.loop-i.i + 1) =
     (elim c.if-stands.branch [
-      then-stands y ↦ rw (y.curve-is, y.self-is)
+      | then-stands y ↦ rw (y.curve-is, y.self-is)
           (glide-stands _ _ _ _ (omega arith) p.3 less rows c.smaller-end.ensures refl refl (stands-glides _ _ _ _ _ c.stands.ensures y.if-stands.true y.write_standing.ensures))
       | else-stands y ↦ rw (y.curve-is, y.self-is)
-          (glide-moves _ _ _ _ (omega arith) p.3 less rows c.smaller-end.ensures refl refl _ y.glide_voice.ensures) ]) in
+          (glide-moves _ _ _ _ (omega arith) p.3 less rows c.smaller-end.ensures refl refl _ y.glide_voice.ensures)
+    ]) in
     (omega arith, p.1, p.2, next)
 
 pub returns : goal.returns

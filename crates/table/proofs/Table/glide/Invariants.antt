@@ -1,13 +1,5 @@
-use mathlib.Core.Path.{refl}
-use mathlib.Core.Logic.{⊎_elim}
-use Prim.Native.Nat.{◌+◌, ◌-◌, ◌*◌, ◌≤◌}
-use native.Mathlib.Nat.{mul-le-mul}
-use native.Mathlib.Omega.{arith}
-use borrow.Author.Rules.{rules}
-use lib.ListN.{length}
-use Rattle.curves.proofs.Standing.{stands-glides}
-use Rattle.table.proofs.Sizes.{voices-long}
-use Rattle.table.proofs.Gliding.{Gliding, gliding-start, glide-moves, glide-stands, glided-table}
+use Prim.Native.Nat.{◌-◌, ◌≤◌}
+use Rattle.table.proofs.Gliding.{Gliding}
 use Rattle.table.proofs.Table.glide.Given as goal
 
 abbrev pub invariant-loop-i : goal.invariant-loop-i

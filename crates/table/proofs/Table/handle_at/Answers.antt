@@ -1,6 +1,5 @@
 use Rattle.table.proofs.Searches.{handle-here, handle-past}
 use Rattle.table.proofs.Sizes.{voices-long}
-use borrow.Author.Rules.{rules}
 use native.Mathlib.Omega.{arith}
 use Rattle.table.proofs.Table.handle_at.Goals as goal
 

@@ -1,16 +1,9 @@
-use mathlib.Core.Path.{sym}
 use Prim.Native.Nat.{ℕ, ◌≤◌, ◌<◌, ◌-◌}
-use borrow.Author.Count.{below_none, below_more}
 use lib.ListN.{get_or}
 use Rattle.lists.specs.Perms.{times}
 use Rattle.model.specs.Voices.{handles}
 use Rattle.table.specs.declared.Table.{Table}
 use Rattle.table.specs.View.{voices_in}
-use Rattle.table.proofs.Searches.{handles-at, handles-size}
-use Rattle.table.proofs.Handles.{counted-twice, counted-once, each-distinct}
-use Rattle.table.proofs.Sizes.{voices-long}
-use borrow.Author.Rules.{rules}
-use native.Mathlib.Omega.{arith}
 use Rattle.table.proofs.Table.handles_distinct.Given as goal
 
 -- the handle at j stands once

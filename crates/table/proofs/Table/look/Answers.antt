@@ -1,8 +1,5 @@
-use Prim.Native.Nat.{◌≤◌, ◌-◌}
-use Rattle.table.specs.View.{seen_in}
-use Rattle.table.proofs.Looking.{Looking, looking-start, looking-more, looking-end}
+use Rattle.table.proofs.Looking.{looking-start, looking-more, looking-end}
 use Rattle.table.proofs.Sizes.{voices-long}
-use borrow.Author.Rules.{rules}
 use native.Mathlib.Omega.{arith}
 use Rattle.table.proofs.Table.look.Goals as goal
 

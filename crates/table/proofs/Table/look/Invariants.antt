@@ -1,9 +1,6 @@
 use Prim.Native.Nat.{◌≤◌, ◌-◌}
 use Rattle.table.specs.View.{seen_in}
-use Rattle.table.proofs.Looking.{Looking, looking-start, looking-more, looking-end}
-use Rattle.table.proofs.Sizes.{voices-long}
-use borrow.Author.Rules.{rules}
-use native.Mathlib.Omega.{arith}
+use Rattle.table.proofs.Looking.{Looking}
 use Rattle.table.proofs.Table.look.Given as goal
 
 abbrev pub invariant-loop-i : goal.invariant-loop-i

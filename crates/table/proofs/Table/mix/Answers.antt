@@ -1,10 +1,8 @@
 use mathlib.Core.Path.{◌≡◌, refl}
-use mathlib.Core.Logic.{⊎_elim}
-use Prim.Native.Nat.{◌+◌, ◌*◌, ◌-◌, ◌≤◌, ◌<◌, min}
+use Prim.Native.Nat.{◌+◌, ◌≤◌, ◌<◌, min}
 use native.Mathlib.Nat.{mul-le-mul}
 use native.Mathlib.Omega.{arith}
 use borrow.Author.Rules.{rules}
-use borrow.Author.Tests.{not-true, not-false}
 use lib.ListN.{length, get_or}
 use Rattle.lists.specs.Pass.{pass-read}
 use Rattle.voice.proofs.Sizes.{past_end}
@@ -51,11 +49,12 @@ loop-i-preserved c =
     sums.left sums.right c.if-not-goes_on.ended c.if-not-goes_on.self.voices c.if-not-goes_on.gone c.smaller-at.result (c.loop-i.i + 1) =
     rw more
     (elim c.if-not-goes_on.branch [
-      then-not-goes_on y ↦ rw (y.ended-is, y.self-is, y.gone-is, y.report.ensures) (mix-not _ _ v short u e w r m c.goes_on.ensures y.if-not-goes_on.true)
+      | then-not-goes_on y ↦ rw (y.ended-is, y.self-is, y.gone-is, y.report.ensures) (mix-not _ _ v short u e w r m c.goes_on.ensures y.if-not-goes_on.true)
       | else-not-goes_on+then-gone-gt0 y ↦
           rw (y.ended-is, y.self-is, y.gone-is) (mix-up _ _ v short u e w r m c.goes_on.ensures y.if-not-goes_on.false y.if-gone-gt0.true room)
       | else-not-goes_on+else-gone-gt0 y ↦
-          rw (y.ended-is, y.self-is, y.gone-is) (mix-here _ _ v short u e w r m c.goes_on.ensures y.if-not-goes_on.false y.if-gone-gt0.false room) ]) in
+          rw (y.ended-is, y.self-is, y.gone-is) (mix-here _ _ v short u e w r m c.goes_on.ensures y.if-not-goes_on.false y.if-gone-gt0.false room)
+    ]) in
     (let z : next.stay + c.if-not-goes_on.gone ≡ c.loop-i.i + 1 = next.table.places in omega arith, omega arith, omega (arith, c.add_voice-env.auto, i.2), omega (arith, c.add_voice-env.auto, i.3), next)
 
 pub shape_of-ended : goal.shape_of-ended

@@ -1,16 +1,7 @@
-use mathlib.Core.Path.{◌≡◌, refl}
-use mathlib.Core.Logic.{⊎_elim}
-use Prim.Native.Nat.{◌+◌, ◌*◌, ◌-◌, ◌≤◌, ◌<◌, min}
-use native.Mathlib.Nat.{mul-le-mul}
-use native.Mathlib.Omega.{arith}
-use borrow.Author.Rules.{rules}
-use borrow.Author.Tests.{not-true, not-false}
-use lib.ListN.{length, get_or}
-use Rattle.lists.specs.Pass.{pass-read}
-use Rattle.voice.proofs.Sizes.{past_end}
-use Rattle.table.proofs.Sizes.{voices-long}
-use Rattle.table.proofs.Retaining.{report-long}
-use Rattle.table.proofs.Mixing.{UnderWay, mixed_to, mix-start, mix-here, mix-up, mix-not, mixed-more, mixed-end}
+use mathlib.Core.Path.{◌≡◌}
+use Prim.Native.Nat.{◌-◌, ◌≤◌}
+use lib.ListN.{length}
+use Rattle.table.proofs.Mixing.{UnderWay, mixed_to}
 use Rattle.table.proofs.Table.mix.Given as goal
 
 abbrev pub invariant-loop-i : goal.invariant-loop-i

@@ -1,6 +1,5 @@
 use Rattle.table.proofs.Edits.{holds_pushed, holds-full}
 use Rattle.table.proofs.Sizes.{voices-long}
-use borrow.Author.Rules.{rules}
 use Rattle.table.proofs.Table.push.Goals as goal
 
 pub returns-then-end-lt64 : goal.returns-then-end-lt64

@@ -1,5 +1,4 @@
 use Rattle.model.specs.Voices.{quietest}
-use borrow.Author.Rules.{rules}
 use Rattle.table.proofs.Table.quietest.Goals as goal
 
 pub returns : goal.returns

@@ -1,10 +1,7 @@
 use Prim.Native.Nat.{◌≤◌, ◌-◌}
 use Rattle.voice.specs.Changes.{test_of}
 use Rattle.table.specs.View.{voices_in}
-use Rattle.table.proofs.Searches.{Best, best-start, best-turn, best-end}
-use Rattle.table.proofs.Sizes.{voices-long}
-use borrow.Author.Rules.{rules}
-use native.Mathlib.Omega.{arith}
+use Rattle.table.proofs.Searches.{Best}
 use Rattle.table.proofs.Table.quietest_by.Given as goal
 
 abbrev pub invariant-loop-i : goal.invariant-loop-i

@@ -1,5 +1,4 @@
 use Rattle.model.specs.Voices.{quietest_sounding}
-use borrow.Author.Rules.{rules}
 use Rattle.table.proofs.Table.quietest_sounding.Goals as goal
 
 pub returns : goal.returns

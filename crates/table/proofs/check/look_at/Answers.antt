@@ -1,7 +1,6 @@
 use mathlib.Core.Bool.{not}
 use Rattle.lists.specs.Count.{one_if-le}
 use Rattle.table.proofs.Looking.{look_one}
-use borrow.Author.Rules.{rules}
 use native.Mathlib.Omega.{arith}
 use Rattle.table.proofs.check.look_at.Goals as goal
 

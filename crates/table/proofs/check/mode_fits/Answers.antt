@@ -1,7 +1,6 @@
 use mathlib.Core.Path.{refl}
 use Rattle.table.specs.Check.{mode_agrees}
 use Rattle.table.proofs.Handles.{mode-is}
-use borrow.Author.Rules.{rules}
 use Rattle.table.proofs.check.mode_fits.Goals as goal
 
 pub returns-in-Poly : goal.returns-in-Poly

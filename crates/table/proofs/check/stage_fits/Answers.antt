@@ -1,5 +1,4 @@
 use Rattle.table.proofs.Checks.{agrees, agrees-idle, agrees-held, agrees-release}
-use borrow.Author.Rules.{rules}
 use Rattle.table.proofs.check.stage_fits.Goals as goal
 
 pub returns-in-Idle : goal.returns-in-Idle

@@ -1,6 +1,5 @@
 use Rattle.voice.proofs.Sizes.{copies-long}
 use Rattle.table.proofs.Checks.{fits-1, fits-2, fits-3, fits-4, fits-5}
-use borrow.Author.Rules.{rules}
 use Rattle.table.proofs.check.voice_fits.Goals as goal
 
 pub returns-then-v-gt8 : goal.returns-then-v-gt8
