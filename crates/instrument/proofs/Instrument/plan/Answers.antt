@@ -35,6 +35,7 @@ returns c =
     let a = c.args in
     plan-done a.self a.frames a.vibrato a.filter a.sine _ accepted c.if-modulated.self
     ((elim c.if-modulated.branch [
-      then-modulated x ↦ rw x.self-is (modulated-on _ _ _ _ _ _ (sym active ∙ x.if-modulated.true) x.apply_modulation-self.ensures)
-      | else-modulated x ↦ rw x.self-is (modulated-off _ _ _ _ _ (sym active ∙ x.if-modulated.false)) ]))
+      | then-modulated x ↦ rw x.self-is (modulated-on _ _ _ _ _ _ (sym active ∙ x.if-modulated.true) x.apply_modulation-self.ensures)
+      | else-modulated x ↦ rw x.self-is (modulated-off _ _ _ _ _ (sym active ∙ x.if-modulated.false))
+    ]))
     _ _ _ c.glide-glided.ensures c.answered.ensures
