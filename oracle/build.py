@@ -56,7 +56,7 @@ def main():
         # The speed comparison: the Rust as fast as rustc makes it, with the Rattle side beside it.
         rustc("-C", "opt-level=3", "-C", "lto=fat", "-C", "codegen-units=1", "-C", "panic=abort", "-C", "debuginfo=1", "--cfg", "bench",
               "--check-cfg", "cfg(bench, test)", "--crate-name", "bench", "--extern", f"serde={serde}",
-              "-C", f"link-arg={HERE.parent / 'target/staticlib/libbench.a'}", "-o", OUT / "bench", CRATE / "bench.rs")
+              "-C", f"link-arg={HERE.parent / 'crates/bench/out/libbench.a'}", "-o", OUT / "bench", CRATE / "bench.rs")
         return
     rustc("-C", "opt-level=2", "-C", "overflow-checks=on", "--check-cfg", "cfg(bench, test)", "--crate-name", "oracle", "--extern", f"serde={serde}",
           "-o", OUT / "oracle", CRATE / "main.rs")

@@ -1,4 +1,4 @@
-/* The voice manager for a host in C or C++. Link libhost.a (made by `rt lib` in crates/host) and the C library's math part (-lm).
+/* The voice manager for a host in C or C++. Link libhost.a (crates/host_c/out/libhost_c.a, made by `rt lib` there) and the C library's math part (-lm).
  *
  * A state is a plain record of numbers, about 21 KB. A call takes it by value and gives the next one back beside its reply;
  * nothing is kept anywhere else, so a copy of a state is a copy of the instrument. No call allocates; a call needs up to 300 KB of stack.

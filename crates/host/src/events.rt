@@ -33,8 +33,7 @@ pub struct HostEvent {
 }
 
 // One frame of an envelope; a stage that is none is refused.
-#[unsafe(no_mangle)]
-pub extern "C" fn cirstumbe_env_tick(env: HostEnv) -> HostEnvOutcome
+pub fn cirstumbe_env_tick(env: HostEnv) -> HostEnvOutcome
     ensures { HostTickAs env result }
 {
     if !wire::numbers::stage_numbered(env) {
@@ -85,8 +84,7 @@ fn event_in(c: Cursor, answer: Answer) -> HostEvent
 }
 
 // The next event from a place with a running status, and the place and status behind it.
-#[unsafe(no_mangle)]
-pub extern "C" fn cirstumbe_midi_step(stream: &[u8], place: usize, status: u8) -> HostEvent
+pub fn cirstumbe_midi_step(stream: &[u8], place: usize, status: u8) -> HostEvent
     ensures { result ≡ event_of (stepped stream.now (cursor_at place status)) }
 {
     let stepped = midi::step(stream, Cursor { place, status });

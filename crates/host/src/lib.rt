@@ -172,8 +172,7 @@ fn begin(design: InstrumentDesign) -> HostOutcome
 }
 
 // A mode that is none is a design number outside its limits, as no voices are.
-#[unsafe(no_mangle)]
-pub extern "C" fn cirstumbe_new(design: HostDesign) -> HostOutcome
+pub fn cirstumbe_new(design: HostDesign) -> HostOutcome
     ensures { HostStartAs design result }
 {
     let mut d = wire::read_design(design);
@@ -185,13 +184,7 @@ pub extern "C" fn cirstumbe_new(design: HostDesign) -> HostOutcome
 }
 
 // `built` is 0, or any other number for yes.
-#[unsafe(no_mangle)]
-pub extern "C" fn cirstumbe_note_on(
-    h: HostState,
-    note: u8,
-    velocity: f32,
-    built: u32,
-) -> HostOutcome
+pub fn cirstumbe_note_on(h: HostState, note: u8, velocity: f32, built: u32) -> HostOutcome
     ensures { HostCallAs h (Call.note_on note velocity (flag_of built)) result }
 {
     if !wire::numbers::numbered(h) {
@@ -200,8 +193,7 @@ pub extern "C" fn cirstumbe_note_on(
     outcome(h, wire::read(h).note_on(note, velocity, built != 0))
 }
 
-#[unsafe(no_mangle)]
-pub extern "C" fn cirstumbe_note_off(h: HostState, note: u8) -> HostOutcome
+pub fn cirstumbe_note_off(h: HostState, note: u8) -> HostOutcome
     ensures { HostCallAs h (Call.control (Control.note_off note)) result }
 {
     if !wire::numbers::numbered(h) {
@@ -211,8 +203,7 @@ pub extern "C" fn cirstumbe_note_off(h: HostState, note: u8) -> HostOutcome
 }
 
 // `down` is 0, or any other number for yes.
-#[unsafe(no_mangle)]
-pub extern "C" fn cirstumbe_set_sustain(h: HostState, down: u32) -> HostOutcome
+pub fn cirstumbe_set_sustain(h: HostState, down: u32) -> HostOutcome
     ensures { HostCallAs h (Call.control (Control.pedal (flag_of down))) result }
 {
     if !wire::numbers::numbered(h) {
@@ -221,8 +212,7 @@ pub extern "C" fn cirstumbe_set_sustain(h: HostState, down: u32) -> HostOutcome
     outcome(h, wire::read(h).set_sustain(down != 0))
 }
 
-#[unsafe(no_mangle)]
-pub extern "C" fn cirstumbe_set_bend(h: HostState, factor: f32) -> HostOutcome
+pub fn cirstumbe_set_bend(h: HostState, factor: f32) -> HostOutcome
     ensures { HostCallAs h (Call.control (Control.bend factor)) result }
 {
     if !wire::numbers::numbered(h) {
@@ -231,8 +221,7 @@ pub extern "C" fn cirstumbe_set_bend(h: HostState, factor: f32) -> HostOutcome
     outcome(h, wire::read(h).set_bend(factor))
 }
 
-#[unsafe(no_mangle)]
-pub extern "C" fn cirstumbe_set_brightness(h: HostState, scale: f32) -> HostOutcome
+pub fn cirstumbe_set_brightness(h: HostState, scale: f32) -> HostOutcome
     ensures { HostCallAs h (Call.control (Control.brightness scale)) result }
 {
     if !wire::numbers::numbered(h) {
@@ -241,8 +230,7 @@ pub extern "C" fn cirstumbe_set_brightness(h: HostState, scale: f32) -> HostOutc
     outcome(h, wire::read(h).set_brightness(scale))
 }
 
-#[unsafe(no_mangle)]
-pub extern "C" fn cirstumbe_release(h: HostState, handle: u64) -> HostOutcome
+pub fn cirstumbe_release(h: HostState, handle: u64) -> HostOutcome
     ensures { HostCallAs h (Call.control (Control.release handle)) result }
 {
     if !wire::numbers::numbered(h) {
@@ -251,8 +239,7 @@ pub extern "C" fn cirstumbe_release(h: HostState, handle: u64) -> HostOutcome
     outcome(h, wire::read(h).release(handle))
 }
 
-#[unsafe(no_mangle)]
-pub extern "C" fn cirstumbe_all_notes_off(h: HostState) -> HostOutcome
+pub fn cirstumbe_all_notes_off(h: HostState) -> HostOutcome
     ensures { HostCallAs h (Call.control Control.all_off) result }
 {
     if !wire::numbers::numbered(h) {
@@ -261,8 +248,7 @@ pub extern "C" fn cirstumbe_all_notes_off(h: HostState) -> HostOutcome
     outcome(h, wire::read(h).all_notes_off())
 }
 
-#[unsafe(no_mangle)]
-pub extern "C" fn cirstumbe_plan(
+pub fn cirstumbe_plan(
     h: HostState,
     frames: usize,
     vibrato: f32,
@@ -303,8 +289,7 @@ fn mix_outcome(h: HostState, made: MixOutcome) -> HostMixOutcome
     }
 }
 
-#[unsafe(no_mangle)]
-pub extern "C" fn cirstumbe_mix(h: HostState, samples: &[f32], out: &mut [f32]) -> HostMixOutcome
+pub fn cirstumbe_mix(h: HostState, samples: &[f32], out: &mut [f32]) -> HostMixOutcome
     ensures { HostMixAs h samples.now out.old out.new result }
 {
     if !wire::numbers::numbered(h) {
@@ -317,8 +302,7 @@ pub extern "C" fn cirstumbe_mix(h: HostState, samples: &[f32], out: &mut [f32]) 
     mix_outcome(h, wire::read(h).mix(samples, out))
 }
 
-#[unsafe(no_mangle)]
-pub extern "C" fn cirstumbe_is_active(h: HostState, handle: u64) -> HostReply
+pub fn cirstumbe_is_active(h: HostState, handle: u64) -> HostReply
     ensures { result ≡ said_answer (host_asked h (is_active (model_of h) handle)) }
 {
     if !wire::numbers::numbered(h) {
@@ -327,8 +311,7 @@ pub extern "C" fn cirstumbe_is_active(h: HostState, handle: u64) -> HostReply
     said_answer(wire::read(h).is_active(handle))
 }
 
-#[unsafe(no_mangle)]
-pub extern "C" fn cirstumbe_active_voices(h: HostState) -> HostReply
+pub fn cirstumbe_active_voices(h: HostState) -> HostReply
     ensures { result ≡ said_answer (host_asked h (active_voices (model_of h))) }
 {
     if !wire::numbers::numbered(h) {
@@ -337,8 +320,7 @@ pub extern "C" fn cirstumbe_active_voices(h: HostState) -> HostReply
     said_answer(wire::read(h).active_voices())
 }
 
-#[unsafe(no_mangle)]
-pub extern "C" fn cirstumbe_voice_of(h: HostState, note: u8) -> HostReply
+pub fn cirstumbe_voice_of(h: HostState, note: u8) -> HostReply
     ensures { HostVoiceAs h note result }
 {
     if !wire::numbers::numbered(h) {
