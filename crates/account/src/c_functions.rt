@@ -1,5 +1,5 @@
-// The start and the calls of a run of the C functions: each function is the call of one alone, and promises what the
-// account asks of a start or of a call.
+// The start and the calls of a run of the C functions, as `host` has them and `host_c` exports them: each function is
+// the call of one alone, and promises what the account asks of a start or of a call.
 
 ghost use Rattle.model.specs.Types.{Control, Call};
 ghost use Rattle.wire.specs.Reads.{flag_of};
