@@ -1,3 +1,4 @@
 pub mod Runs
 pub mod Code
 pub mod Methods
+pub mod Host

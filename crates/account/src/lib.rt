@@ -1,10 +1,13 @@
-// The handle account of the running program: what `model` proves of its definitions holds of what the code replies and returns.
+// The handle account of the running program: what `model` proves of its definitions holds of what the methods of an
+// instrument, and the functions over a host's numbers, reply and return.
 
 #![tactic(auto)]
 
 ghost use Rattle.account.specs.Code.{CallsAreSteps};
 ghost use Rattle.account.specs.Methods.{HandleAccount};
+ghost use Rattle.account.specs.Host.{HostHandleAccount};
 
+mod c_functions;
 mod methods;
 
 // Every list of calls from an accepted start replies what `step` gives of the views, so the handle account is one of the code.
@@ -16,4 +19,9 @@ pub fn calls_are_steps()
 // state on the way.
 pub fn handle_account()
     ensures { HandleAccount }
+{}
+
+// The same of every list of calls of the C functions, read off the numbers that a host is given.
+pub fn host_handle_account()
+    ensures { HostHandleAccount }
 {}
