@@ -96,6 +96,7 @@ pub struct InstrumentDesign {
 }
 
 impl InstrumentDesign {
+    #[tactic(auto, unfolding(crate::specs::Accepted::numbers_fit))]
     fn numbers_fit(self) -> bool
         ensures { result ≡ numbers_fit self }
     {

@@ -1,3 +1,4 @@
 pub mod Itself
 pub mod Ordering
 pub mod Reciprocal
+pub mod Roots

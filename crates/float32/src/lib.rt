@@ -99,6 +99,7 @@ const ROOTS: [f32; 9] = [
 ];
 
 // The square root of n, rounded once, for n up to 8. There is none beyond: a NaN.
+#[tactic(auto, using(crate::proofs::Roots::none_past))]
 pub fn root(n: u8) -> f32
     ensures { result ≡ root_of n }
 {
