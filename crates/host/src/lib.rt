@@ -36,14 +36,14 @@ pub struct HostReply {
 }
 
 #[repr(C)]
-#[derive(Drop)]
+#[derive(Clone, Copy)]
 pub struct HostOutcome {
     pub reply: HostReply,
     pub state: HostState,
 }
 
 #[repr(C)]
-#[derive(Drop)]
+#[derive(Clone, Copy)]
 pub struct HostMixOutcome {
     pub reply: HostReply,
     // The handles that ended, with zeros behind.

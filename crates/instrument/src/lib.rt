@@ -228,7 +228,7 @@ impl Instrument {
 }
 
 // The theorem that the times of every design the code can hold are values of 32 bits.
-pub fn times_fit(design: InstrumentDesign)
+fn times_fit(design: InstrumentDesign)
     ensures { TimesFit design }
 {}
 

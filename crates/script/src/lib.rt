@@ -22,14 +22,14 @@ use lists::smaller;
 use voice::Voice;
 
 // `ready` once a design was accepted.
-#[derive(Drop)]
+#[derive(Clone, Copy)]
 pub struct Session {
     pub ready: bool,
     pub state: Instrument,
 }
 
 // The session after a line, and how many bytes were printed.
-#[derive(Drop)]
+#[derive(Clone, Copy)]
 pub struct Said {
     pub session: Session,
     pub count: usize,
