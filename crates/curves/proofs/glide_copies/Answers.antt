@@ -59,7 +59,9 @@ pub overflow_mul-end : goal.overflow_mul-end
 overflow_mul-end c = omega (arith, four-left c.loop-j.at c.args.frames c.smaller-n.result c.loop-j.j _ (omega (arith, c.alone.ensures c.if-alone.false)) c.loop-j.invariant.2, c.loop-j.invariant.1)
 
 pub overflow_add-end-else-alone : goal.overflow_add-end-else-alone
-overflow_add-end-else-alone c = omega (arith, four-left c.loop-j.at c.args.frames c.smaller-n.result c.loop-j.j _ (omega (arith, c.alone.ensures c.if-alone.false)) c.loop-j.invariant.2, c.loop-j.invariant.1)
+overflow_add-end-else-alone c =
+    let left = four-left c.loop-j.at c.args.frames c.smaller-n.result c.loop-j.j _ (omega (arith, c.alone.ensures c.if-alone.false)) c.loop-j.invariant.2 in
+    omega (arith, left, c.loop-j.invariant.1)
 
 pub offset_bounds-copies-j-else-alone : goal.offset_bounds-copies-j-else-alone
 offset_bounds-copies-j-else-alone c = omega (arith, c.alone.ensures c.if-alone.false)
@@ -95,14 +97,19 @@ pub bounds-copies-j-else-alone-4 : goal.bounds-copies-j-else-alone-4
 bounds-copies-j-else-alone-4 c = omega (arith, c.alone.ensures c.if-alone.false, c.well_formed.0.1.0.1)
 
 pub offset_bounds-curve-at-else-alone : goal.offset_bounds-curve-at-else-alone
-offset_bounds-curve-at-else-alone c = omega (arith, four-left c.loop-j.at c.args.frames c.smaller-n.result c.loop-j.j _ (omega (arith, c.alone.ensures c.if-alone.false)) c.loop-j.invariant.2, c.loop-j.invariant.1)
+offset_bounds-curve-at-else-alone c =
+    let left = four-left c.loop-j.at c.args.frames c.smaller-n.result c.loop-j.j _ (omega (arith, c.alone.ensures c.if-alone.false)) c.loop-j.invariant.2 in
+    omega (arith, left, c.loop-j.invariant.1)
 
 pub slice_bounds-glide_four-end : goal.slice_bounds-glide_four-end
-slice_bounds-glide_four-end c = omega (arith, four-left c.loop-j.at c.args.frames c.smaller-n.result c.loop-j.j _ (omega (arith, c.alone.ensures c.if-alone.false)) c.loop-j.invariant.2, c.loop-j.invariant.1)
+slice_bounds-glide_four-end c =
+    let left = four-left c.loop-j.at c.args.frames c.smaller-n.result c.loop-j.j _ (omega (arith, c.alone.ensures c.if-alone.false)) c.loop-j.invariant.2 in
+    omega (arith, left, c.loop-j.invariant.1)
 
 pub glide_four-next-requires : goal.glide_four-next-requires
 glide_four-next-requires c =
-    let numbers : c.loop-j.at + c.args.frames * 4 ≤ length c.loop-j.curve = omega (arith, four-left c.loop-j.at c.args.frames c.smaller-n.result c.loop-j.j _ (omega (arith, c.alone.ensures c.if-alone.false)) c.loop-j.invariant.2, c.loop-j.invariant.1) in
+    let left = four-left c.loop-j.at c.args.frames c.smaller-n.result c.loop-j.j _ (omega (arith, c.alone.ensures c.if-alone.false)) c.loop-j.invariant.2 in
+    let numbers : c.loop-j.at + c.args.frames * 4 ≤ length c.loop-j.curve = omega (arith, left, c.loop-j.invariant.1) in
     let k : c.loop-j.at + c.args.frames * 4 - c.loop-j.at ≡ c.args.frames * 4 = omega arith in
     rw k (sym (part-size c.loop-j.at (c.args.frames * 4) c.loop-j.curve numbers))
 

@@ -20,16 +20,20 @@ returns-then-not-is_accepted c =
 pub returns-then-design-voices : goal.returns-then-design-voices
 unfolding numbers_fit
 returns-then-design-voices c =
-    and_then _ _ _ (le-leb _ 64 c.if-voices-gt64.false) (and_then _ _ _ (le-leb _ 256 c.if-held-gt256.false) (and_then _ _ _ (sym c.is_accepted.ensures ∙ c.if-not-is_accepted.false) (and-fails _ _ (lt-leb _ _ c.if-design-voices.true))))
+    and_then _ _ _ (le-leb _ 64 c.if-voices-gt64.false) (and_then _ _ _ (le-leb _ 256 c.if-held-gt256.false)
+    (and_then _ _ _ (sym c.is_accepted.ensures ∙ c.if-not-is_accepted.false) (and-fails _ _ (lt-leb _ _ c.if-design-voices.true))))
 
 pub returns-then-next-lt1 : goal.returns-then-next-lt1
 unfolding numbers_fit
 returns-then-next-lt1 c =
     and_then _ _ _ (le-leb _ 64 c.if-voices-gt64.false)
-    (and_then _ _ _ (le-leb _ 256 c.if-held-gt256.false) (and_then _ _ _ (sym c.is_accepted.ensures ∙ c.if-not-is_accepted.false) (and_then _ _ _ (le-leb _ _ c.if-design-voices.false) (and-fails _ _ (lt-leb 1 _ c.if-next-lt1.true)))))
+    (and_then _ _ _ (le-leb _ 256 c.if-held-gt256.false)
+    (and_then _ _ _ (sym c.is_accepted.ensures ∙ c.if-not-is_accepted.false) (and_then _ _ _ (le-leb _ _ c.if-design-voices.false) (and-fails _ _ (lt-leb 1 _ c.if-next-lt1.true)))))
 
 pub returns : goal.returns
 unfolding numbers_fit
 returns c =
     and_then _ _ _ (le-leb _ 64 c.if-voices-gt64.false)
-    (and_then _ _ _ (le-leb _ 256 c.if-held-gt256.false) (and_then _ _ _ (sym c.is_accepted.ensures ∙ c.if-not-is_accepted.false) (and_then _ _ _ (le-leb _ _ c.if-design-voices.false) (and_then _ _ _ (le-leb 1 _ c.if-next-lt1.false) c.block_fits.ensures))))
+    (and_then _ _ _ (le-leb _ 256 c.if-held-gt256.false)
+    (and_then _ _ _ (sym c.is_accepted.ensures ∙ c.if-not-is_accepted.false) (and_then _ _ _ (le-leb _ _ c.if-design-voices.false)
+    (and_then _ _ _ (le-leb 1 _ c.if-next-lt1.false) c.block_fits.ensures))))

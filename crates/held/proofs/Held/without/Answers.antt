@@ -14,7 +14,10 @@ loop-i-preserved c =
     let l = notes-long h c.well_formed.0 in
     let p = c.place.ensures in
     (elim c.if-place-note.branch [
-      | then-place-note w ↦ (omega arith, rw (w.notes-is, w.count-is) (keeping-more h.notes _ _ c.loop-i.i c.loop-i.notes _ (omega arith) c.loop-i.invariant.1 (omega arith) (λ e. w.if-place-note.true (p.0 ∙ e))))
+      | then-place-note w ↦ (
+        omega arith,
+        rw (w.notes-is, w.count-is) (keeping-more h.notes _ _ c.loop-i.i c.loop-i.notes _ (omega arith) c.loop-i.invariant.1 (omega arith) (λ e. w.if-place-note.true (p.0 ∙ e))),
+      )
       | else-place-note w ↦ (omega arith, rw (w.notes-is, w.count-is) (keeping-skip h.notes _ _ c.loop-i.i c.loop-i.notes _ (omega arith) c.loop-i.invariant.1 (sym p.0 ∙ w.if-place-note.false)))
     ])
 

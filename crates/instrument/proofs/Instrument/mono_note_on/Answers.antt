@@ -9,7 +9,8 @@ pub returns-then-place-self : goal.returns-then-place-self
 unfolding placed_as
 returns-then-place-self c =
     let x = c.args.self in
-    mono-kept x (free _ c.requires) (voices-long x c.well_formed.0) (held-long x c.well_formed.0) _ c.ranges.note.fits _ c.with-with.ensures _ _ _ _ c.find_first-place.ensures _ c.if-place-self.true _ _
+    mono-kept x (free _ c.requires) (voices-long x c.well_formed.0) (held-long x c.well_formed.0)
+    _ c.ranges.note.fits _ c.with-with.ensures _ _ _ _ c.find_first-place.ensures _ c.if-place-self.true _ _
     c.handle_at-handle.ensures c.change_at-kept.ensures c.answered.ensures
 
 pub returns-then-self-eq18446744073709551615 : goal.returns-then-self-eq18446744073709551615

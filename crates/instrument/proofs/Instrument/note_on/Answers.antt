@@ -24,7 +24,8 @@ returns-in-Mono c =
 pub returns-then-self-eq18446744073709551615 : goal.returns-then-self-eq18446744073709551615
 returns-then-self-eq18446744073709551615 c =
     let fine : Free c.args.self = free _ (sym (barred-by _ _ _ c.well_formed-2.ensures c.barred-number.ensures) ∙ c.if-number-ne0.false) in
-    poly-spent _ fine _ _ _ _ (off-is _ _ _ c.velocity_of-level.ensures c.if-level.false) _ c.velocity_of-level.ensures (is-poly _ c.in_default.not-Mono) c.if-self-eq18446744073709551615.true c.refused-then-self-eq18446744073709551615.ensures
+    poly-spent _ fine _ _ _ _ (off-is _ _ _ c.velocity_of-level.ensures c.if-level.false) _ c.velocity_of-level.ensures
+    (is-poly _ c.in_default.not-Mono) c.if-self-eq18446744073709551615.true c.refused-then-self-eq18446744073709551615.ensures
 
 pub spawn_voice-requires : goal.spawn_voice-requires
 unfolding placed_as
@@ -36,4 +37,5 @@ spawn_voice-requires c =
 pub returns : goal.returns
 returns c =
     let fine : Free c.args.self = free _ (sym (barred-by _ _ _ c.well_formed-2.ensures c.barred-number.ensures) ∙ c.if-number-ne0.false) in
-    poly-new _ fine _ _ _ _ (off-is _ _ _ c.velocity_of-level.ensures c.if-level.false) _ c.velocity_of-level.ensures (is-poly _ c.in_default.not-Mono) c.if-self-eq18446744073709551615.false c.spawn_voice.ensures
+    poly-new _ fine _ _ _ _ (off-is _ _ _ c.velocity_of-level.ensures c.if-level.false) _ c.velocity_of-level.ensures
+    (is-poly _ c.in_default.not-Mono) c.if-self-eq18446744073709551615.false c.spawn_voice.ensures

@@ -13,14 +13,16 @@ pub returns-then-number-ne0 : goal.returns-then-number-ne0
 returns-then-number-ne0 c =
     let x = c.args in
     let s = x.self in
-    let number = plan-number s x.frames x.vibrato x.filter x.sine x.curve.now (voices-long s c.well_formed.0) (held-long s c.well_formed.0) _ _ (barred-by _ _ _ c.well_formed-2.ensures c.barred-barring.ensures) c.plan_refusal-number.ensures in
+    let number = plan-number s x.frames x.vibrato x.filter x.sine x.curve.now
+    (voices-long s c.well_formed.0) (held-long s c.well_formed.0) _ _ (barred-by _ _ _ c.well_formed-2.ensures c.barred-barring.ensures) c.plan_refusal-number.ensures in
     plan-refused _ _ _ _ _ _ _ _ number c.if-number-ne0.true c.refused.ensures
 
 pub apply_modulation-self-requires : goal.apply_modulation-self-requires
 apply_modulation-self-requires c =
     let x = c.args in
     let s = x.self in
-    let number = plan-number s x.frames x.vibrato x.filter x.sine x.curve.now (voices-long s c.well_formed.0) (held-long s c.well_formed.0) _ _ (barred-by _ _ _ c.well_formed-2.ensures c.barred-barring.ensures) c.plan_refusal-number.ensures in
+    let number = plan-number s x.frames x.vibrato x.filter x.sine x.curve.now
+    (voices-long s c.well_formed.0) (held-long s c.well_formed.0) _ _ (barred-by _ _ _ c.well_formed-2.ensures c.barred-barring.ensures) c.plan_refusal-number.ensures in
     let accepted = sym number ∙ c.if-number-ne0.false in
     plan-fits _ _ _ _ _ _ accepted
 
@@ -29,7 +31,8 @@ unfolding blocked_as
 returns c =
     let x = c.args in
     let s = x.self in
-    let number = plan-number s x.frames x.vibrato x.filter x.sine x.curve.now (voices-long s c.well_formed.0) (held-long s c.well_formed.0) _ _ (barred-by _ _ _ c.well_formed-2.ensures c.barred-barring.ensures) c.plan_refusal-number.ensures in
+    let number = plan-number s x.frames x.vibrato x.filter x.sine x.curve.now
+    (voices-long s c.well_formed.0) (held-long s c.well_formed.0) _ _ (barred-by _ _ _ c.well_formed-2.ensures c.barred-barring.ensures) c.plan_refusal-number.ensures in
     let accepted = sym number ∙ c.if-number-ne0.false in
     let active = c.modulated.ensures in
     let a = c.args in

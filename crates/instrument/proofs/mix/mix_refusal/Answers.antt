@@ -26,17 +26,20 @@ overflow_mul-voices c =
 pub returns-then-not-fills : goal.returns-then-not-fills
 unfolding mix_refusal
 returns-then-not-fills c =
-    let asked : c.fills.result ≡ eqb (c.args.frames * (c.args.voices * copies_of c.args.design)) c.args.samples = c.fills.ensures ∙ ap (λ (k : ℕ). eqb (c.args.frames * (c.args.voices * k)) c.args.samples) c.copies.ensures in
+    let asked : c.fills.result ≡ eqb (c.args.frames * (c.args.voices * copies_of c.args.design)) c.args.samples =
+    c.fills.ensures ∙ ap (λ (k : ℕ). eqb (c.args.frames * (c.args.voices * k)) c.args.samples) c.copies.ensures in
     rw (c.if-not-formed.false, ne_eqb _ 0 c.if-frames-eq0.false, ← asked, c.if-not-fills.true)
 
 pub returns-then-fills : goal.returns-then-fills
 unfolding mix_refusal
 returns-then-fills c =
-    let asked : c.fills.result ≡ eqb (c.args.frames * (c.args.voices * copies_of c.args.design)) c.args.samples = c.fills.ensures ∙ ap (λ (k : ℕ). eqb (c.args.frames * (c.args.voices * k)) c.args.samples) c.copies.ensures in
+    let asked : c.fills.result ≡ eqb (c.args.frames * (c.args.voices * copies_of c.args.design)) c.args.samples =
+    c.fills.ensures ∙ ap (λ (k : ℕ). eqb (c.args.frames * (c.args.voices * k)) c.args.samples) c.copies.ensures in
     rw (c.if-not-formed.false, ne_eqb _ 0 c.if-frames-eq0.false, sym asked ∙ c.if-not-fills.false, ← c.fills-2.ensures, c.if-fills.true)
 
 pub returns-else-fills : goal.returns-else-fills
 unfolding mix_refusal
 returns-else-fills c =
-    let asked : c.fills.result ≡ eqb (c.args.frames * (c.args.voices * copies_of c.args.design)) c.args.samples = c.fills.ensures ∙ ap (λ (k : ℕ). eqb (c.args.frames * (c.args.voices * k)) c.args.samples) c.copies.ensures in
+    let asked : c.fills.result ≡ eqb (c.args.frames * (c.args.voices * copies_of c.args.design)) c.args.samples =
+    c.fills.ensures ∙ ap (λ (k : ℕ). eqb (c.args.frames * (c.args.voices * k)) c.args.samples) c.copies.ensures in
     rw (c.if-not-formed.false, ne_eqb _ 0 c.if-frames-eq0.false, sym asked ∙ c.if-not-fills.false, ← c.fills-2.ensures, c.if-fills.false)

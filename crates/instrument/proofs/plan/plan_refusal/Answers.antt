@@ -22,10 +22,12 @@ overflow_mul-voices c =
 
 pub returns-then-fills : goal.returns-then-fills
 returns-then-fills c =
-    let asked : c.fills.result ≡ eqb (c.args.frames * (c.args.voices * copies_of c.args.design)) c.args.len = c.fills.ensures ∙ ap (λ (k : ℕ). eqb (c.args.frames * (c.args.voices * k)) c.args.len) c.copies.ensures in
+    let asked : c.fills.result ≡ eqb (c.args.frames * (c.args.voices * copies_of c.args.design)) c.args.len =
+    c.fills.ensures ∙ ap (λ (k : ℕ). eqb (c.args.frames * (c.args.voices * k)) c.args.len) c.copies.ensures in
     plan-0 _ _ _ _ _ c.if-barred-ne0.false (sym c.frames_fit.ensures ∙ c.if-not-frames_fit.false) (sym asked ∙ c.if-fills.true)
 
 pub returns-else-fills : goal.returns-else-fills
 returns-else-fills c =
-    let asked : c.fills.result ≡ eqb (c.args.frames * (c.args.voices * copies_of c.args.design)) c.args.len = c.fills.ensures ∙ ap (λ (k : ℕ). eqb (c.args.frames * (c.args.voices * k)) c.args.len) c.copies.ensures in
+    let asked : c.fills.result ≡ eqb (c.args.frames * (c.args.voices * copies_of c.args.design)) c.args.len =
+    c.fills.ensures ∙ ap (λ (k : ℕ). eqb (c.args.frames * (c.args.voices * k)) c.args.len) c.copies.ensures in
     plan-7 _ _ _ _ _ c.if-barred-ne0.false (sym c.frames_fit.ensures ∙ c.if-not-frames_fit.false) (sym asked ∙ c.if-fills.false)

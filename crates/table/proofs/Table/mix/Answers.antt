@@ -54,8 +54,13 @@ loop-i-preserved c =
           rw (y.ended-is, y.self-is, y.gone-is) (mix-up _ _ v short u e w r m c.goes_on.ensures y.if-not-goes_on.false y.if-gone-gt0.true room)
       | else-not-goes_on+else-gone-gt0 y ↦
           rw (y.ended-is, y.self-is, y.gone-is) (mix-here _ _ v short u e w r m c.goes_on.ensures y.if-not-goes_on.false y.if-gone-gt0.false room)
-    ]) in
-    (let z : next.stay + c.if-not-goes_on.gone ≡ c.loop-i.i + 1 = next.table.places in omega arith, omega arith, omega (arith, c.add_voice-env.auto, i.2), omega (arith, c.add_voice-env.auto, i.3), next)
+    ]) in (
+      let z : next.stay + c.if-not-goes_on.gone ≡ c.loop-i.i + 1 = next.table.places in omega arith,
+      omega arith,
+      omega (arith, c.add_voice-env.auto, i.2),
+      omega (arith, c.add_voice-env.auto, i.3),
+      next,
+    )
 
 pub shape_of-ended : goal.shape_of-ended
 shape_of-ended c = report-long c.loop-i.invariant.4.table
