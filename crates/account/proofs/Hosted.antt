@@ -1,4 +1,5 @@
 -- What a C function promises of its numbers is a step of what they stand for.
+use Rattle.std.specs.Prelude.{Result, Ok, Err}
 use mathlib.Core.Path.{◌≡◌, refl, ap, sym, ◌∙◌}
 use mathlib.Core.Bool.{Bool, true, false, ◌&&◌}
 use mathlib.Core.List.{List}
@@ -9,8 +10,8 @@ use lib.Ieee.{Float}
 use Rattle.lists.specs.Choose.{clash, cond-true, chosen, both}
 use Rattle.design.specs.declared.PlayMode.{PlayMode}
 use Rattle.design.specs.declared.PlayMode.TheVariants.{Poly, Mono}
-use Rattle.design.specs.declared.DesignReply.{DesignReply}
-use Rattle.design.specs.declared.DesignReply.TheVariants.{Accepted, Refused}
+use Rattle.outcome.specs.declared.Refusal.{Refusal}
+use Rattle.outcome.specs.Numbers.{number_of}
 use Rattle.design.specs.Accepted.{is_accepted}
 use Rattle.model.specs.Types.{Model, Control, Call, Reply, Outcome}
 use Rattle.model.specs.Types.{Call.note_on, Call.control, Call.plan, Call.mix}
@@ -154,18 +155,18 @@ host-steps h sure (mix samples out) said t a = steps-as h sure (mix samples out)
 
 -- ---- the start
 
-said-accepted : (x : DesignReply) → (said_start x).kind ≡ 9 → x ≡ Accepted
-said-accepted Accepted e = refl
-said-accepted (Refused n) e = let z : ◌≡◌ {A = ℕ} 0 9 = e in let y : ⊥ = omega arith in absurd y
+said-accepted : (x : Result (Unit {0}) Refusal) → (said_start x).kind ≡ 9 → x ≡ Ok tt
+said-accepted (Ok tt) e = refl
+said-accepted (Err n) e = let z : ◌≡◌ {A = ℕ} 0 9 = e in let y : ⊥ = omega arith in absurd y
 
-host-accepted : (d : HostDesign) → host_design_reply d ≡ Accepted → host_accepted d ≡ true
+host-accepted : (d : HostDesign) → host_design_reply d ≡ Ok tt → host_accepted d ≡ true
 unfolding host_design_reply host_accepted
 host-accepted d e = by (mode_numbered d) refl
   where
     by : (b : Bool) → mode_numbered d ≡ b → mode_numbered d && is_accepted (design_of d) ≡ true
     by true f = rw f (sym (accepted-yes (design_of d) (rw f at e)))
     by false f =
-        let z : ◌≡◌ {A = ℕ} 0 9 = ap (λ (x : DesignReply). (said_start x).kind) (rw f at e) in
+        let z : ◌≡◌ {A = ℕ} 0 9 = ap (λ (x : Result (Unit {0}) Refusal). (said_start x).kind) (rw f at e) in
         let y : ⊥ = omega arith in
         absurd y
 

@@ -1,8 +1,7 @@
 -- The handle account of the code (document 01, "The handle account"): a call of a run is what each of the nine methods
 -- of an instrument promises of its reply and its state (`StepAs`).
-use Rattle.std.specs.Prelude.{◌≡◌, List, ℕ, Float}
+use Rattle.std.specs.Prelude.{◌≡◌, List, ℕ, Float, Ok}
 use Rattle.design.specs.declared.InstrumentDesign.{InstrumentDesign}
-use Rattle.design.specs.declared.DesignReply.TheVariants.{Accepted}
 use Rattle.model.specs.Types.{Call, Call.plan, Call.mix, Reply}
 use Rattle.instrument.specs.declared.Instrument.{Instrument}
 use Rattle.instrument.specs.declared.MixOutcome.{MixOutcome}
@@ -33,5 +32,5 @@ MixRuns s samples old new r =
 
 -- of every run of the code from "the state an accepted start gives"
 unfoldable pub HandleAccount : Type 0
-HandleAccount = (d : InstrumentDesign) (r : NewInstrument) → StartAs d r → r.reply ≡ Accepted
+HandleAccount = (d : InstrumentDesign) (r : NewInstrument) → StartAs d r → r.reply ≡ Ok tt
     → (xs : List (Ran code)) → RunFrom code r.state xs → Accounted code d r.state xs

@@ -1,18 +1,19 @@
 -- What a design must be (document 01, rows 2 and 3 of the table of refusals, and "Limits").
-use Rattle.std.specs.Prelude.{Bool, not, ◌&&◌, ◌||◌, cond, ℕ, leb, eqb, Float}
+use Rattle.std.specs.Prelude.{Bool, not, ◌&&◌, ◌||◌, cond, ℕ, leb, eqb, Float, Result, Ok, Err}
 use Rattle.std.specs.Float.Ieee.{lt}
 use Rattle.std.specs.Float.Ieee.Scale.{finite}
 use Rattle.float32.specs.Numbers.{zero}
 use Rattle.envelope.specs.Start.{rate_fits, all_finite}
 use Rattle.design.specs.declared.InstrumentDesign.{InstrumentDesign}
 use Rattle.design.specs.declared.Modulation.{Modulation}
-use Rattle.design.specs.declared.DesignReply.{DesignReply}
-use Rattle.design.specs.declared.DesignReply.TheVariants.{Accepted, Refused}
+use Rattle.outcome.specs.declared.Refusal.{Refusal}
+use Rattle.outcome.specs.declared.Refusal.TheVariants.{OutsideLimits, NotFinite}
+use Rattle.outcome.specs.Numbers.{number_of}
 
 -- document 01's number for each answer, 0 where nothing is refused
-abbrev pub refusal_of : DesignReply → ℕ
-refusal_of Accepted = 0
-refusal_of (Refused n) = n
+abbrev pub refusal_of : Result (Unit {0}) Refusal → ℕ
+refusal_of (Ok _) = 0
+refusal_of (Err reason) = number_of reason
 
 -- an LFO counts where its depth and its rate are above 0
 unfoldable pub lfo_active : Float → Float → Bool
@@ -38,8 +39,8 @@ floats_fit d =
     all_finite d.amp.a d.amp.d d.amp.s d.amp.r && (finite d.unison_width && (finite d.glide && modulation_finite d.modulation))
 
 -- "2, 3 at the start"
-unfoldable pub design_reply : InstrumentDesign → DesignReply
-design_reply d = cond (not (numbers_fit d)) (Refused 2) (cond (not (floats_fit d)) (Refused 3) Accepted)
+unfoldable pub design_reply : InstrumentDesign → Result (Unit {0}) Refusal
+design_reply d = cond (not (numbers_fit d)) (Err OutsideLimits) (cond (not (floats_fit d)) (Err NotFinite) (Ok tt))
 
 -- an accepted design
 unfoldable pub is_accepted : InstrumentDesign → Bool

@@ -7,16 +7,19 @@ ghost use Rattle.std.specs.Prelude.{◌≡◌};
 ghost use Rattle.design.specs.Zeros.{zero_design};
 ghost use Rattle.design.specs.Accepted.{lfo_active, modulated, modulation_finite, numbers_fit, floats_fit, design_reply, copies_of};
 
+use outcome::Refusal;
+
 // How notes share voices.
-#[derive(Clone, Copy)]
+#[derive(Clone, Copy, Default, PartialEq, Eq)]
 pub enum PlayMode {
+    #[default]
     Poly,
     // One voice at a time; `legato` keeps its envelope running.
     Mono { legato: bool },
 }
 
 // The amplitude envelope's settings: seconds, seconds, a level, seconds.
-#[derive(Clone, Copy)]
+#[derive(Clone, Copy, Default)]
 pub struct Adsr {
     pub a: f32,
     pub d: f32,
@@ -25,7 +28,7 @@ pub struct Adsr {
 }
 
 // Rate and depth of each LFO. A rate or depth not above 0 is off.
-#[derive(Clone, Copy)]
+#[derive(Clone, Copy, Default)]
 pub struct Modulation {
     pub vibrato_rate: f32,
     pub vibrato_cents: f32,
@@ -75,14 +78,7 @@ impl Modulation {
     }
 }
 
-// The answer to a design: accepted, or refused with the number of the reason.
-#[derive(Clone, Copy)]
-pub enum DesignReply {
-    Accepted,
-    Refused(u8),
-}
-
-#[derive(Clone, Copy)]
+#[derive(Clone, Copy, Default)]
 pub struct InstrumentDesign {
     pub sample_rate: u32,
     pub max_voices: u32,
@@ -130,16 +126,16 @@ impl InstrumentDesign {
     }
 
     // Numbers are looked at before floats.
-    pub fn accepted(self) -> DesignReply
+    pub fn accepted(self) -> Result<(), Refusal>
         ensures { result ≡ design_reply self }
     {
         if !self.numbers_fit() {
-            return DesignReply::Refused(2);
+            return Err(Refusal::OutsideLimits);
         }
         if !self.floats_fit() {
-            return DesignReply::Refused(3);
+            return Err(Refusal::NotFinite);
         }
-        DesignReply::Accepted
+        Ok(())
     }
 
     // How many copies a voice has.
@@ -154,26 +150,5 @@ impl InstrumentDesign {
 pub fn zero_design() -> InstrumentDesign
     ensures { result ≡ zero_design }
 {
-    InstrumentDesign {
-        sample_rate: 0,
-        max_voices: 0,
-        mode: PlayMode::Poly,
-        unison: 0,
-        unison_width: 0.0,
-        amp: Adsr {
-            a: 0.0,
-            d: 0.0,
-            s: 0.0,
-            r: 0.0,
-        },
-        glide: 0.0,
-        modulation: Modulation {
-            vibrato_rate: 0.0,
-            vibrato_cents: 0.0,
-            tremolo_rate: 0.0,
-            tremolo_depth: 0.0,
-            filter_rate: 0.0,
-            filter_octaves: 0.0,
-        },
-    }
+    InstrumentDesign::default()
 }

@@ -7,9 +7,10 @@ use borrow.Author.Tests.{leb-true, lt-leb, le-leb}
 use lib.Dec.{T, leb, le→leb}
 use lib.Ieee.{Float, in_float, binary32}
 use lib.IntN.{pos}
+use Rattle.std.specs.Prelude.{Ok}
 use Rattle.lists.specs.Choose.{and-fails, and_then, both}
 use Rattle.envelope.specs.Start.{rate_fits, all_finite, refused_env, settled, new_env}
-use Rattle.envelope.specs.declared.EnvReply.TheVariants.{Ready}
+use Rattle.outcome.specs.declared.Refusal.TheVariants.{OutsideLimits, NotFinite}
 
 pub rate-low : (n : ℕ) → n < 8000 → false ≡ rate_fits n
 unfolding rate_fits
@@ -30,14 +31,14 @@ rate-float n e = le→leb n (2 ^ 24) (let h = rate-most n e in omega arith)
 
 module _ (a d s r : Float) where
   module _ (rate : ℕ) where
-    pub new-rate : rate_fits rate ≡ false → refused_env 2 ≡ new_env a d s r rate
+    pub new-rate : rate_fits rate ≡ false → refused_env OutsideLimits ≡ new_env a d s r rate
     unfolding new_env
     new-rate e = rw e
 
-    pub new-float : rate_fits rate ≡ true → all_finite a d s r ≡ false → refused_env 3 ≡ new_env a d s r rate
+    pub new-float : rate_fits rate ≡ true → all_finite a d s r ≡ false → refused_env NotFinite ≡ new_env a d s r rate
     unfolding new_env
     new-float e f = rw (e, f)
 
-    pub new-ready : rate_fits rate ≡ true → all_finite a d s r ≡ true → record { reply = Ready; env = settled a d s r rate } ≡ new_env a d s r rate
+    pub new-ready : rate_fits rate ≡ true → all_finite a d s r ≡ true → record { state = settled a d s r rate; reply = Ok tt } ≡ new_env a d s r rate
     unfolding new_env
     new-ready e f = rw (e, f)

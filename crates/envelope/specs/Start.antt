@@ -1,19 +1,20 @@
 -- A new envelope (document 01, "envelope.rs", its second and third sentence).
-use Rattle.std.specs.Prelude.{Bool, not, ◌&&◌, cond, ℕ, leb, Float, pos}
+use Rattle.std.specs.Prelude.{Bool, not, ◌&&◌, cond, ℕ, leb, Float, pos, Result, Ok, Err}
 use Rattle.std.specs.Float.{binary32}
 use Rattle.std.specs.Float.Ieee.{of_int}
 use Rattle.std.specs.Float.Ieee.Scale.{finite}
 use Rattle.float32.specs.Numbers.{zero, one, max_of, clamp_of}
+use Rattle.outcome.specs.declared.Outcome.{Outcome}
+use Rattle.outcome.specs.declared.Refusal.{Refusal}
+use Rattle.outcome.specs.declared.Refusal.TheVariants.{OutsideLimits, NotFinite}
+use Rattle.outcome.specs.Numbers.{number_of}
 use Rattle.envelope.specs.declared.EnvGen.{EnvGen}
-use Rattle.envelope.specs.declared.NewEnvGen.{NewEnvGen}
-use Rattle.envelope.specs.declared.EnvReply.{EnvReply}
-use Rattle.envelope.specs.declared.EnvReply.TheVariants.{Ready, Refused}
 use Rattle.envelope.specs.declared.Stage.TheVariants.{Idle}
 
 -- document 01's number for each answer, 0 where nothing is refused
-abbrev pub refusal_of : EnvReply → ℕ
-refusal_of Ready = 0
-refusal_of (Refused n) = n
+abbrev pub refusal_of : Result (Unit {0}) Refusal → ℕ
+refusal_of (Ok _) = 0
+refusal_of (Err reason) = number_of reason
 
 -- "Limits: rate 8,000 to 192,000"
 unfoldable pub rate_fits : ℕ → Bool
@@ -27,8 +28,8 @@ all_finite a d s r = finite a && (finite d && (finite s && finite r))
 abbrev pub no_env : EnvGen
 no_env = record { a = zero; d = zero; s = zero; r = zero; sr = zero; stage = Idle; level = zero; rel_from = zero }
 
-abbrev pub refused_env : ℕ → NewEnvGen
-refused_env n = record { reply = Refused n; env = no_env }
+abbrev pub refused_env : Refusal → Outcome EnvGen (Unit {0})
+refused_env reason = record { state = no_env; reply = Err reason }
 
 -- "a, d, r below 0 become 0; s is clamped to 0..1"
 unfoldable pub settled : Float → Float → Float → Float → ℕ → EnvGen
@@ -44,6 +45,7 @@ settled a d s r rate = record {
 }
 
 -- "refuses 2 for the rate, then 3 for a setting"
-unfoldable pub new_env : Float → Float → Float → Float → ℕ → NewEnvGen
+unfoldable pub new_env : Float → Float → Float → Float → ℕ → Outcome EnvGen (Unit {0})
 new_env a d s r rate =
-    cond (not (rate_fits rate)) (refused_env 2) (cond (not (all_finite a d s r)) (refused_env 3) (record { reply = Ready; env = settled a d s r rate }))
+    cond (not (rate_fits rate)) (refused_env OutsideLimits)
+    (cond (not (all_finite a d s r)) (refused_env NotFinite) (record { state = settled a d s r rate; reply = Ok tt }))

@@ -7,9 +7,12 @@ ghost use Rattle.envelope.specs.Start.{rate_fits, all_finite, new_env, refused_e
 ghost use Rattle.envelope.specs.Gates.{at, gated_on, gated_off, killed, is_active, is_faded};
 ghost use Rattle.envelope.specs.Ticks.{ticked, ticked_attack, ticked_decay, ticked_release};
 
+use outcome::{Outcome, Refusal};
+
 // Stage of a gated envelope.
-#[derive(Clone, Copy)]
+#[derive(Clone, Copy, Default, PartialEq, Eq)]
 pub enum Stage {
+    #[default]
     Idle,
     Attack,
     Decay,
@@ -18,7 +21,7 @@ pub enum Stage {
 }
 
 // Linear segments: `a`, `d`, `r` in seconds, `s` a level, `sr` the sample rate.
-#[derive(Clone, Copy)]
+#[derive(Clone, Copy, Default)]
 pub struct EnvGen {
     pub a: f32,
     pub d: f32,
@@ -29,19 +32,6 @@ pub struct EnvGen {
     pub level: f32,
     // The level at gate_off, from which the release runs down.
     pub rel_from: f32,
-}
-
-// The answer of `EnvGen::new`: ready, or refused with the number of the reason.
-#[derive(Clone, Copy)]
-pub enum EnvReply {
-    Ready,
-    Refused(u8),
-}
-
-#[derive(Clone, Copy)]
-pub struct NewEnvGen {
-    pub reply: EnvReply,
-    pub env: EnvGen,
 }
 
 // Whether a sample rate lies within the limits.
@@ -71,33 +61,21 @@ pub fn all_finite(a: f32, d: f32, s: f32, r: f32) -> bool
 }
 
 // A refused start comes with a record of zeros, Idle.
-fn refused(number: u8) -> NewEnvGen
-    ensures { result ≡ refused_env number }
+fn refused(reason: Refusal) -> Outcome<EnvGen, ()>
+    ensures { result ≡ refused_env reason }
 {
-    NewEnvGen {
-        reply: EnvReply::Refused(number),
-        env: EnvGen {
-            a: 0.0,
-            d: 0.0,
-            s: 0.0,
-            r: 0.0,
-            sr: 0.0,
-            stage: Stage::Idle,
-            level: 0.0,
-            rel_from: 0.0,
-        },
-    }
+    Outcome::refused(EnvGen::default(), reason)
 }
 
 impl EnvGen {
-    pub fn new(a: f32, d: f32, s: f32, r: f32, rate: u32) -> NewEnvGen
+    pub fn new(a: f32, d: f32, s: f32, r: f32, rate: u32) -> Outcome<EnvGen, ()>
         ensures { result ≡ new_env a d s r rate }
     {
         if !rate_fits(rate) {
-            return refused(2);
+            return refused(Refusal::OutsideLimits);
         }
         if !all_finite(a, d, s, r) {
-            return refused(3);
+            return refused(Refusal::NotFinite);
         }
         let env = EnvGen {
             a: float32::max(a, 0.0),
@@ -109,10 +87,7 @@ impl EnvGen {
             level: 0.0,
             rel_from: 0.0,
         };
-        NewEnvGen {
-            reply: EnvReply::Ready,
-            env,
-        }
+        Outcome::answered(env, ())
     }
 
     // The envelope in another stage at another level.

@@ -1,4 +1,5 @@
 -- Values of enums, compared by a number for each variant or variant by variant.
+use Rattle.std.specs.Prelude.{Option, Some, None}
 use mathlib.Core.Path.{◌≡◌, refl, ap, sym, ◌∙◌}
 use mathlib.Core.Bool.{Bool, true, false, cond}
 use Prim.Native.Nat.{ℕ}
@@ -9,8 +10,6 @@ use Rattle.envelope.specs.declared.Stage.{Stage}
 use Rattle.envelope.specs.declared.Stage.TheVariants.{Idle, Attack, Decay, Sustain, Release}
 use Rattle.design.specs.declared.PlayMode.{PlayMode}
 use Rattle.design.specs.declared.PlayMode.TheVariants.{Poly, Mono}
-use Rattle.stream.specs.declared.Cutoff.{Cutoff}
-use Rattle.stream.specs.declared.Cutoff.TheVariants.{Unset, Set}
 use Rattle.equal_states.specs.Same.{Decides}
 use Rattle.equal_states.specs.Numbers.{stage_number, mode_number}
 use Rattle.equal_states.proofs.Joined.{means, by_number}
@@ -41,12 +40,12 @@ mode-back (Mono false) = refl
 pub modes : (a b : PlayMode) (m n : ℕ) → m ≡ mode_number a → n ≡ mode_number b → Decides (eqb m n) (a ≡ b)
 modes a b m n = by_number mode_number mode_of a b m n (mode-back a) (mode-back b)
 
-module _ (a b : Cutoff) where
-  pub unset_set : (y : Float) → a ≡ Unset → b ≡ Set y → a ≡ b → ⊥
+module _ (a b : Option Float) where
+  pub unset_set : (y : Float) → a ≡ None → b ≡ Some y → a ≡ b → ⊥
   unset_set y p q e = let z : ◌≡◌ {A = ℕ} 0 1 = cc in omega arith
 
-  pub both-set : {r : Bool} (x y : Float) → a ≡ Set x → b ≡ Set y → Decides r (x ≡ y) → Decides r (a ≡ b)
-  both-set x y p q = means (λ e. p ∙ ap Set e ∙ sym q) (λ e. taken_out x y (sym p ∙ e ∙ q))
+  pub both-set : {r : Bool} (x y : Float) → a ≡ Some x → b ≡ Some y → Decides r (x ≡ y) → Decides r (a ≡ b)
+  both-set x y p q = means (λ e. p ∙ ap Some e ∙ sym q) (λ e. taken_out x y (sym p ∙ e ∙ q))
     where
-      taken_out : (x y : Float) → Set x ≡ Set y → x ≡ y
+      taken_out : (x y : Float) → Some x ≡ Some y → x ≡ y
       taken_out x y e = cc

@@ -16,7 +16,7 @@ use held::Held;
 use instrument::Instrument;
 use lists::smaller;
 use note::Note;
-use stream::{Cutoff, UnisonCopy};
+use stream::UnisonCopy;
 use table::Table;
 use voice::Voice;
 
@@ -60,17 +60,17 @@ fn env_same(a: EnvGen, b: EnvGen) -> bool
         & float_same(a.rel_from, b.rel_from)
 }
 
-fn cutoff_same(a: Cutoff, b: Cutoff) -> bool
+fn cutoff_same(a: Option<f32>, b: Option<f32>) -> bool
     ensures { Decides result (a ≡ b) }
 {
     match a {
-        Cutoff::Unset => match b {
-            Cutoff::Unset => true,
-            Cutoff::Set(_) => false,
+        None => match b {
+            None => true,
+            Some(_) => false,
         },
-        Cutoff::Set(x) => match b {
-            Cutoff::Unset => false,
-            Cutoff::Set(y) => float_same(x, y),
+        Some(x) => match b {
+            None => false,
+            Some(y) => float_same(x, y),
         },
     }
 }

@@ -1,5 +1,6 @@
 -- The examples compute: with the definitions of the calls unfolded each is `refl`, but for E1, which is of every design, and E6, which is of any
 -- number of frames.
+use Rattle.std.specs.Prelude.{None}
 use mathlib.Core.Path.{◌≡◌, refl, ap, ◌∙◌}
 use mathlib.Core.Bool.{Bool, true, false}
 use mathlib.Core.List.{List, [], ◌∷◌, ◌++◌, map}
@@ -16,7 +17,6 @@ use Rattle.envelope.specs.declared.Stage.TheVariants.{Sustain}
 use Rattle.envelope.specs.Start.{rate_fits, all_finite, settled}
 use Rattle.envelope.specs.Gates.{at, gated_on, released, with_release, gated_off, killed, is_active, is_faded}
 use Rattle.envelope.specs.Ticks.{rise, ticked_attack, ticked_decay, ticked_release, ticked}
-use Rattle.stream.specs.declared.Cutoff.TheVariants.{Unset}
 use Rattle.stream.specs.Pitch.{pitched, glide_step, stepped, heard, glided, curve}
 use Rattle.stream.specs.Copies.{new_copy, spread_of, pan_of, norm_of, caught_up}
 use Rattle.design.specs.declared.InstrumentDesign.{InstrumentDesign}
@@ -172,7 +172,7 @@ abbrev sustaining : Voice
 sustaining = record {
   handle = 1;
   note = 60;
-  copies = record { l = one; r = one; pitch = one; pitch_target = one; glide = one; bend = one; cutoff = Unset } ∷ [];
+  copies = record { l = one; r = one; pitch = one; pitch_target = one; glide = one; bend = one; cutoff = None } ∷ [];
   built_hz = freq_of 60;
   env = record { a = +0; d = +0; s = audible; r = +0; sr = of_bits binary32 0x473b_8000; stage = Sustain; level = audible; rel_from = +0 };
   gain = one;

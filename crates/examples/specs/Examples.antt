@@ -1,6 +1,6 @@
 -- Document 01's examples ("Examples to prove together"): one table, E1 to E13, of inputs and what the definitions make of them.
 -- Where 01 names no number, the line holds for all of them, or takes the script's.
-use Rattle.std.specs.Prelude.{◌≡◌, Bool, true, false, List, [], ◌∷◌, ◌++◌, map, ℕ, zero, suc, Float, length, replicate}
+use Rattle.std.specs.Prelude.{◌≡◌, Bool, true, false, List, [], ◌∷◌, ◌++◌, map, ℕ, zero, suc, Float, length, replicate, Option, Ok}
 use Rattle.std.specs.Float.{nan, binary32}
 use Rattle.std.specs.Float.Ieee.{of_bits}
 use Rattle.float32.specs.Numbers.{zero as +0, one}
@@ -8,13 +8,11 @@ use Rattle.envelope.specs.declared.EnvGen.{EnvGen}
 use Rattle.envelope.specs.Start.{settled}
 use Rattle.envelope.specs.Gates.{gated_on}
 use Rattle.envelope.specs.Ticks.{ticked}
-use Rattle.stream.specs.declared.Cutoff.{Cutoff}
 use Rattle.stream.specs.Pitch.{curve}
 use Rattle.stream.specs.Copies.{new_copy, half, two}
 use Rattle.design.specs.declared.InstrumentDesign.{InstrumentDesign}
 use Rattle.design.specs.declared.PlayMode.{PlayMode}
 use Rattle.design.specs.declared.PlayMode.TheVariants.{Poly, Mono}
-use Rattle.design.specs.declared.DesignReply.TheVariants.{Accepted}
 use Rattle.design.specs.Accepted.{is_accepted}
 use Rattle.model.specs.Types.{Voice, Call, Reply}
 use Rattle.model.specs.Types.{Call.note_on, Call.control, Call.plan, Call.mix, Control.note_off, Control.release}
@@ -63,7 +61,7 @@ row_of v = row v.handle v.note v.releasing v.sustained v.env.level
 
 -- the design is accepted; the calls reply so; and the table stands so at the end
 pub record Plays (d : InstrumentDesign) (calls : List Call) (said : List Reply) (rows : List Row) : Type 0 where
-  pub ready : (start_of d).reply ≡ Accepted
+  pub ready : (start_of d).reply ≡ Ok tt
   pub reply : replies (start_of d).model calls ≡ said
   pub table : map row_of (after (start_of d).model calls).voices ≡ rows
 
@@ -120,7 +118,7 @@ pub record WorkedExamples : Type 0 where
       (started 1 0 0 ∷ (frames_kept 1 ++ (released true ∷ frame_ending 1)))
       []
   -- E8 "pitch 1, target 2, glide 0.5, bend 2: 3, 3.5"
-  pub e8 : (l r : Float) (cutoff : Cutoff)
+  pub e8 : (l r : Float) (cutoff : Option Float)
       → curve 2 (record { l = l; r = r; pitch = one; pitch_target = two; glide = half; bend = two; cutoff = cutoff })
       ≡ of_bits binary32 0x4040_0000 ∷ of_bits binary32 0x4060_0000 ∷ []
   -- E9 "unison 4, width 1, copy 0: gains 0.5 and 0"

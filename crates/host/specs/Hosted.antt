@@ -1,8 +1,8 @@
 -- What a call for a host promises: it is the instrument's call between reading the numbers of a state and writing those of the next
 -- (document 01, "What a call replies"). Numbers that stand for no state are a state that is not well formed: refusal 1.
-use Rattle.std.specs.Prelude.{◌≡◌, Bool, true, ◌&&◌, cond, List, ℕ, Float}
-use Rattle.design.specs.declared.DesignReply.{DesignReply}
-use Rattle.design.specs.declared.DesignReply.TheVariants.{Refused}
+use Rattle.std.specs.Prelude.{◌≡◌, Bool, true, ◌&&◌, cond, List, ℕ, Float, Result, Err}
+use Rattle.outcome.specs.declared.Refusal.{Refusal}
+use Rattle.outcome.specs.declared.Refusal.TheVariants.{OutsideLimits}
 use Rattle.design.specs.declared.InstrumentDesign.{InstrumentDesign}
 use Rattle.design.specs.Accepted.{design_reply, is_accepted}
 use Rattle.model.specs.Types.{Model, Call, Reply}
@@ -68,8 +68,8 @@ pub record HostVoiceAs (h : HostState) (note : ℕ) (said : HostReply) : Type 0 
   pub unread : (numbered h ≡ true → ⊥) → said ≡ refusing unformed
 
 -- a start: a mode that is none is a design number outside its limits, refusal 2
-unfoldable pub host_design_reply : HostDesign → DesignReply
-host_design_reply d = cond (mode_numbered d) (design_reply (design_of d)) (Refused 2)
+unfoldable pub host_design_reply : HostDesign → Result (Unit {0}) Refusal
+host_design_reply d = cond (mode_numbered d) (design_reply (design_of d)) (Err OutsideLimits)
 
 -- an accepted design, with a number that names its mode
 unfoldable pub host_accepted : HostDesign → Bool

@@ -1,7 +1,7 @@
 -- The numbers of what is replied (document 01, "Our forms for each place": where an answer is an enum, every case has its number and values).
-use Rattle.std.specs.Prelude.{Bool, cond, List, ℕ, replicate}
-use Rattle.design.specs.declared.DesignReply.{DesignReply}
-use Rattle.design.specs.declared.DesignReply.TheVariants.{Accepted, Refused}
+use Rattle.std.specs.Prelude.{Bool, cond, List, ℕ, replicate, Result, Ok, Err}
+use Rattle.outcome.specs.declared.Refusal.{Refusal}
+use Rattle.outcome.specs.Numbers.{number_of}
 use Rattle.model.specs.Types.{Reply}
 use Rattle.model.specs.Types.{Reply.started, Reply.silent, Reply.kept, Reply.off, Reply.done, Reply.released, Reply.planned, Reply.mixed, Reply.refused}
 use Rattle.model.specs.Queries as model
@@ -56,9 +56,9 @@ report_of (mixed count ended) = ended
 report_of (refused n) = replicate 64 0
 
 -- the reply of a start
-abbrev pub said_start : DesignReply → HostReply
-said_start Accepted = saying 9 0 0 0 0 0 0
-said_start (Refused n) = refusing n
+abbrev pub said_start : Result (Unit {0}) Refusal → HostReply
+said_start (Ok _) = saying 9 0 0 0 0 0 0
+said_start (Err reason) = refusing (number_of reason)
 
 -- each answer of a query
 abbrev pub said_answer : model.Answer → HostReply

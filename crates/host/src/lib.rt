@@ -12,8 +12,9 @@ ghost use Rattle.wire.specs.Reads.{flag_of, model_of};
 ghost use Rattle.host.specs.Said.{saying, flag_number, refusing, said_of, said_start, said_answer};
 ghost use Rattle.host.specs.Hosted.{Hosts, unread, BegunAs, HostCallAs, HostPlanAs, HostMixAs, HostStartAs, HostVoiceAs, host_asked};
 
-use design::{DesignReply, InstrumentDesign};
+use design::InstrumentDesign;
 use instrument::{Answer, Instrument, MixOutcome, MixReply, Outcome, Reply};
+use outcome::Refusal;
 use wire::{HostDesign, HostState};
 
 pub mod events;
@@ -109,12 +110,12 @@ fn said_mix(reply: MixReply) -> HostReply
     }
 }
 
-fn said_start(reply: DesignReply) -> HostReply
+fn said_start(reply: Result<(), Refusal>) -> HostReply
     ensures { result ≡ said_start reply }
 {
     match reply {
-        DesignReply::Accepted => said(9, 0, 0, 0, 0, 0, 0),
-        DesignReply::Refused(number) => said_refused(number as u32),
+        Ok(_) => said(9, 0, 0, 0, 0, 0, 0),
+        Err(reason) => said_refused(reason.number() as u32),
     }
 }
 

@@ -16,10 +16,11 @@ ghost use Rattle.instrument.specs.Calls.{StartAs, last_handle, refused_as, answe
 ghost use Rattle.instrument.specs.Levels.{StartLevels};
 ghost use Rattle.instrument.specs.Asked.{answer_of, asked_of, VoiceAs};
 
-use design::{DesignReply, InstrumentDesign, PlayMode, zero_design};
+use design::{InstrumentDesign, PlayMode, zero_design};
 use envelope::EnvGen;
 use held::Held;
 use note::Note;
+use outcome::Refusal;
 use stream::UnisonCopy;
 use table::Table;
 use voice::{CopyChange, Voice, VoiceChange, VoiceTest, new_voice};
@@ -100,7 +101,7 @@ pub enum Answer {
 
 #[derive(Clone, Copy)]
 pub struct NewInstrument {
-    pub reply: DesignReply,
+    pub reply: Result<(), Refusal>,
     pub state: Instrument,
 }
 
@@ -109,8 +110,8 @@ fn is_accepted(design: InstrumentDesign) -> bool
 {
     let reply = design.accepted();
     match reply {
-        DesignReply::Accepted => true,
-        DesignReply::Refused(_) => false,
+        Ok(_) => true,
+        Err(_) => false,
     }
 }
 
@@ -168,7 +169,7 @@ fn numbers_fit(
 // A voice that stands in no table.
 fn no_voice() -> Voice {
     let made = EnvGen::new(0.0, 0.0, 0.0, 0.0, 0);
-    let env = made.env;
+    let env = made.state;
     Voice {
         handle: 0,
         note: Note(0),
@@ -215,11 +216,11 @@ impl Instrument {
     {
         let reply = design.accepted();
         match reply {
-            DesignReply::Accepted => NewInstrument {
+            Ok(_) => NewInstrument {
                 reply,
                 state: Instrument::empty(design, 1, 1.0),
             },
-            DesignReply::Refused(_) => NewInstrument {
+            Err(_) => NewInstrument {
                 reply,
                 state: Instrument::empty(zero_design(), 0, 0.0),
             },

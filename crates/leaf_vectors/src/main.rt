@@ -5,11 +5,12 @@
 
 mod words;
 
-use design::{Adsr, DesignReply, InstrumentDesign, Modulation, PlayMode};
-use envelope::{EnvGen, EnvReply, Stage};
+use design::{Adsr, InstrumentDesign, Modulation, PlayMode};
+use envelope::{EnvGen, Stage};
+use outcome::Refusal;
 use std::io;
 use std::io::{ErrorKind, Read};
-use stream::{Cutoff, UnisonCopy};
+use stream::UnisonCopy;
 use words::{field, float, say};
 
 // One envelope, one copy, and the settings that a line on designs takes over.
@@ -22,25 +23,11 @@ struct Leaf {
 }
 
 fn start() -> Leaf {
-    let new = EnvGen::new(0.0, 0.0, 0.0, 0.0, 0);
-    let env = new.env;
     Leaf {
-        env,
+        env: EnvGen::default(),
         copy: UnisonCopy::new(0, 1, 0.0),
-        amp: Adsr {
-            a: 0.0,
-            d: 0.0,
-            s: 0.0,
-            r: 0.0,
-        },
-        modulation: Modulation {
-            vibrato_rate: 0.0,
-            vibrato_cents: 0.0,
-            tremolo_rate: 0.0,
-            tremolo_depth: 0.0,
-            filter_rate: 0.0,
-            filter_octaves: 0.0,
-        },
+        amp: Adsr::default(),
+        modulation: Modulation::default(),
     }
 }
 
@@ -72,24 +59,6 @@ fn say_env(rt: &impl Print, letter: u8, first: u32, e: EnvGen) -> io::Result<()>
     )
 }
 
-// Whether a cutoff was set, and which.
-#[derive(Clone, Copy)]
-struct Cut {
-    set: u32,
-    bits: u32,
-}
-
-fn cut_of(c: UnisonCopy) -> Cut {
-    let cutoff = c.cutoff;
-    match cutoff {
-        Cutoff::Unset => Cut { set: 0, bits: 0 },
-        Cutoff::Set(x) => Cut {
-            set: 1,
-            bits: float32::to_bits(x),
-        },
-    }
-}
-
 fn say_copy(rt: &impl Print, letter: u8, c: UnisonCopy) -> io::Result<()> {
     let l = float32::to_bits(c.l);
     let r = float32::to_bits(c.r);
@@ -97,12 +66,13 @@ fn say_copy(rt: &impl Print, letter: u8, c: UnisonCopy) -> io::Result<()> {
     let target = float32::to_bits(c.pitch_target);
     let glide = float32::to_bits(c.glide);
     let bend = float32::to_bits(c.bend);
-    let cut = cut_of(c);
-    say(
-        rt,
-        letter,
-        [l, r, pitch, target, glide, bend, cut.set, cut.bits],
-    )
+    let cutoff = c.cutoff;
+    // Whether a cutoff was set, and which.
+    let (set, cut) = match cutoff {
+        None => (0, 0),
+        Some(x) => (1, float32::to_bits(x)),
+    };
+    say(rt, letter, [l, r, pitch, target, glide, bend, set, cut])
 }
 
 // N: the frequency of a note.
@@ -126,10 +96,11 @@ fn float_line(rt: &impl Print, s: &[u8]) -> io::Result<()> {
     say(rt, b'X', [fract, below, max, min, level, pan, nan, finite])
 }
 
-fn env_number(r: EnvReply) -> u32 {
-    match r {
-        EnvReply::Ready => 0,
-        EnvReply::Refused(n) => n as u32,
+// The number of a refusal, 0 where nothing is refused.
+fn refusal_number(reply: Result<(), Refusal>) -> u32 {
+    match reply {
+        Ok(_) => 0,
+        Err(reason) => reason.number() as u32,
     }
 }
 
@@ -142,9 +113,9 @@ fn env_line(rt: &impl Print, leaf: Leaf, s: &[u8]) -> io::Result<Leaf> {
         r: float(s, 3),
     };
     let new = EnvGen::new(amp.a, amp.d, amp.s, amp.r, field(s, 4));
-    let env = new.env;
+    let env = new.state;
     let reply = new.reply;
-    say_env(rt, b'E', env_number(reply), env)?;
+    say_env(rt, b'E', refusal_number(reply), env)?;
     let copy = leaf.copy;
     let modulation = leaf.modulation;
     Ok(Leaf {
@@ -316,13 +287,6 @@ fn modulation_line(rt: &impl Print, mut leaf: Leaf, s: &[u8]) -> io::Result<Leaf
     Ok(leaf)
 }
 
-fn design_number(r: DesignReply) -> u32 {
-    match r {
-        DesignReply::Accepted => 0,
-        DesignReply::Refused(n) => n as u32,
-    }
-}
-
 // D: whether a design of a rate, max, unison, width and glide is accepted, with the last amp and modulation.
 fn design_line(rt: &impl Print, leaf: Leaf, s: &[u8]) -> io::Result<()> {
     let amp = leaf.amp;
@@ -340,7 +304,7 @@ fn design_line(rt: &impl Print, leaf: Leaf, s: &[u8]) -> io::Result<()> {
     say(
         rt,
         b'D',
-        [design_number(d.accepted()), d.copies(), 0, 0, 0, 0, 0, 0],
+        [refusal_number(d.accepted()), d.copies(), 0, 0, 0, 0, 0, 0],
     )
 }
 

@@ -40,7 +40,7 @@ impl Session {
         let new = Instrument::new(design::zero_design());
         let instrument = new.state;
         let made = EnvGen::new(0.0, 0.0, 0.0, 0.0, 0);
-        let env = made.env;
+        let env = made.state;
         Session {
             instrument,
             env,

@@ -1,9 +1,8 @@
 // What is printed of a reply.
 
-use design::DesignReply;
-use envelope::EnvReply;
 use instrument::{Answer, Reply};
 use midi::Cursor;
+use outcome::Refusal;
 use patterns::{Form, flag};
 
 // The places in the list of `say`.
@@ -81,17 +80,11 @@ pub fn touched() -> Form {
     form(TOUCHED, 0, 0, 0)
 }
 
-pub fn of_start(reply: DesignReply) -> Form {
+// The reply of a start, of an instrument or an envelope.
+pub fn of_start(reply: Result<(), Refusal>) -> Form {
     match reply {
-        DesignReply::Accepted => form(READY, 0, 0, 0),
-        DesignReply::Refused(n) => refused(n),
-    }
-}
-
-pub fn of_env(reply: EnvReply) -> Form {
-    match reply {
-        EnvReply::Ready => form(READY, 0, 0, 0),
-        EnvReply::Refused(n) => refused(n),
+        Ok(_) => form(READY, 0, 0, 0),
+        Err(reason) => refused(reason.number()),
     }
 }
 

@@ -73,11 +73,11 @@ fn new(v: [u64; 5]) -> Turned {
         float_of(v[4]),
         word_of(v[0]),
     );
-    let env = made.env;
+    let env = made.state;
     let reply = made.reply;
     Turned {
         env,
-        said: said::of_env(reply),
+        said: said::of_start(reply),
     }
 }
 

@@ -1,4 +1,5 @@
 -- One law for each way out of the functions that answer a line.
+use Rattle.std.specs.Prelude.{Result, Ok, Err}
 use mathlib.Core.Path.{◌≡◌, refl, ap, sym, ◌∙◌}
 use mathlib.Core.Bool.{Bool, true, false}
 use mathlib.Core.List.{List}
@@ -9,8 +10,8 @@ use lib.Ieee.{Float}
 use lib.ListN.{length}
 use Rattle.lists.specs.Choose.{cond-true, cond-false, clash}
 use Rattle.design.specs.declared.InstrumentDesign.{InstrumentDesign}
-use Rattle.design.specs.declared.DesignReply.{DesignReply}
-use Rattle.design.specs.declared.DesignReply.TheVariants.{Accepted, Refused}
+use Rattle.outcome.specs.declared.Refusal.{Refusal}
+use Rattle.outcome.specs.Numbers.{number_of}
 use Rattle.design.specs.declared.PlayMode.TheVariants.{Mono}
 use Rattle.design.specs.Accepted.{design_reply, is_accepted}
 use Rattle.forms.specs.declared.DesignForm.{DesignForm}
@@ -36,7 +37,7 @@ mode-legato zero f g = absurd (f refl)
 mode-legato (suc zero) f g = absurd (g refl)
 mode-legato (suc (suc n)) f g = refl
 
-not-both : {n : ℕ} {A : Type 0} (x : DesignReply) → x ≡ Accepted → x ≡ Refused n → A
+not-both : {n : Refusal} {A : Type 0} (x : Result (Unit {0}) Refusal) → x ≡ Ok tt → x ≡ Err n → A
 not-both x e f = let z : ◌≡◌ {A = ℕ} 0 1 = cc in let y : ⊥ = omega arith in absurd y
 
 never : (b : Bool) {A : Type 0} → b ≡ true → b ≡ false → A
@@ -66,14 +67,14 @@ no-design z d made is e p =
 
 module _ (b : Bool) (s : Session) (f : DesignForm) (d : InstrumentDesign) (made : NewInstrument) (old new : List ℕ) (count : ℕ)
     (e : b ≡ false) (is : d ≡ design_of f) (p : StartAs d made) where
-  pub design-refused : (n k : ℕ) → made.reply ≡ Refused n → k ≡ refusal_number made.reply → Printed (refused_text k) old new count
+  pub design-refused : (n : Refusal) (k : ℕ) → made.reply ≡ Err n → k ≡ refusal_number made.reply → Printed (refused_text k) old new count
       → DesignDoes b s (design_of f) old new (record { session = s; count = count })
   unfolding start_of
   design-refused n k w h q =
-      let g : design_reply (design_of f) ≡ Refused n = sym (ap design_reply is) ∙ sym p.reply ∙ w in
+      let g : design_reply (design_of f) ≡ Err n = sym (ap design_reply is) ∙ sym p.reply ∙ w in
       rw e (record {
         refused = λ m z.
-            let i : k ≡ m = h ∙ ap refusal_number (p.reply ∙ ap design_reply is ∙ z) in
+            let i : k ≡ number_of m = h ∙ ap refusal_number (p.reply ∙ ap design_reply is ∙ z) in
             record { session = refl; printed = rw i at q };
         ready = λ z. not-both _ z g;
         in_room = λ z. not-both _ z g;
@@ -81,11 +82,11 @@ module _ (b : Bool) (s : Session) (f : DesignForm) (d : InstrumentDesign) (made 
         printed = λ z. not-both _ z g;
       })
 
-  pub design-ready : made.reply ≡ Accepted → Printed ready_text old new count
+  pub design-ready : made.reply ≡ Ok tt → Printed ready_text old new count
       → DesignDoes b s (design_of f) old new (record { session = record { ready = true; state = made.state }; count = count })
   unfolding start_of
   design-ready w q =
-      let g : design_reply d ≡ Accepted = sym p.reply ∙ w in
+      let g : design_reply d ≡ Ok tt = sym p.reply ∙ w in
       rw e (record {
         refused = λ m z. not-both _ g (ap design_reply is ∙ z);
         ready = λ _. refl;

@@ -1,10 +1,10 @@
 -- What a line does (document 01, "The script program").
-use Rattle.std.specs.Prelude.{◌≡◌, Bool, true, false, List, ◌++◌, ℕ, zero, suc, ◌+◌, ◌≤◌, ◌<◌, eqb, Float, length, take, drop}
+use Rattle.std.specs.Prelude.{◌≡◌, Bool, true, false, List, ◌++◌, ℕ, zero, suc, ◌+◌, ◌≤◌, ◌<◌, eqb, Float, length, take, drop, Result, Ok, Err}
 use Rattle.std.specs.Float.Ieee.{of_bits}
 use Rattle.std.specs.Float.{binary32}
 use Rattle.design.specs.declared.InstrumentDesign.{InstrumentDesign}
-use Rattle.design.specs.declared.DesignReply.{DesignReply}
-use Rattle.design.specs.declared.DesignReply.TheVariants.{Accepted, Refused}
+use Rattle.outcome.specs.declared.Refusal.{Refusal}
+use Rattle.outcome.specs.Numbers.{number_of}
 use Rattle.design.specs.declared.PlayMode.{PlayMode}
 use Rattle.design.specs.declared.PlayMode.TheVariants.{Poly, Mono}
 use Rattle.design.specs.Accepted.{design_reply}
@@ -65,9 +65,9 @@ abbrev pub call_of : OnForm → model.Call
 call_of f = model.Call.note_on f.note (bits f.velocity) (eqb f.built 1)
 
 -- the number that a design is refused with, 0 where it is accepted
-abbrev pub refusal_number : DesignReply → ℕ
-refusal_number Accepted = 0
-refusal_number (Refused n) = n
+abbrev pub refusal_number : Result (Unit {0}) Refusal → ℕ
+refusal_number (Ok _) = 0
+refusal_number (Err reason) = number_of reason
 
 -- before the first line: a state of zeros, as a refused start gives it
 pub record NoDesign (s : Session) : Type 0 where
@@ -82,11 +82,11 @@ pub record Stays (s : Session) (text old new : List ℕ) (r : Said) : Type 0 whe
 
 -- a design: "a refused design counts as none"
 pub record Begins (s : Session) (d : InstrumentDesign) (old new : List ℕ) (r : Said) : Type 0 where
-  pub refused : (n : ℕ) → design_reply d ≡ Refused n → Stays s (refused_text n) old new r
-  pub ready : design_reply d ≡ Accepted → r.session.ready ≡ true
-  pub in_room : design_reply d ≡ Accepted → counted r.session.state ≡ true
-  pub state : design_reply d ≡ Accepted → view r.session.state ≡ fresh d
-  pub printed : design_reply d ≡ Accepted → Printed ready_text old new r.count
+  pub refused : (reason : Refusal) → design_reply d ≡ Err reason → Stays s (refused_text (number_of reason)) old new r
+  pub ready : design_reply d ≡ Ok tt → r.session.ready ≡ true
+  pub in_room : design_reply d ≡ Ok tt → counted r.session.state ≡ true
+  pub state : design_reply d ≡ Ok tt → view r.session.state ≡ fresh d
+  pub printed : design_reply d ≡ Ok tt → Printed ready_text old new r.count
 
 -- a call on the state
 pub record Calls (s : Session) (c : model.Call) (old new : List ℕ) (r : Said) : Type 0 where

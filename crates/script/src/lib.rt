@@ -15,10 +15,11 @@ ghost use Rattle.forms.specs.Forms.{decimal_part, word_part};
 ghost use Rattle.script.specs.Answers.{unread_text, one_text, reply_text, row_text, rows_text, table_text};
 ghost use Rattle.script.specs.Lines.{Puts, mode_of, design_of, call_of, refusal_number, NoDesign, Stays, DesignDoes, OnDoes, VoicesDoes, LineAs};
 
-use design::{Adsr, DesignReply, InstrumentDesign, Modulation, PlayMode};
+use design::{Adsr, InstrumentDesign, Modulation, PlayMode};
 use forms::{DesignForm, Form, OnForm};
 use instrument::{Instrument, Reply};
 use lists::smaller;
+use outcome::Refusal;
 use voice::Voice;
 
 // `ready` once a design was accepted.
@@ -201,12 +202,12 @@ fn design_of(f: DesignForm) -> InstrumentDesign
 }
 
 // 0 where the design is accepted.
-fn refusal_of(reply: DesignReply) -> u64
+fn refusal_of(reply: Result<(), Refusal>) -> u64
     ensures { result ≡ refusal_number reply }
 {
     match reply {
-        DesignReply::Accepted => 0,
-        DesignReply::Refused(n) => n as u64,
+        Ok(_) => 0,
+        Err(reason) => reason.number() as u64,
     }
 }
 
@@ -220,7 +221,7 @@ fn design_line(s: Session, f: DesignForm, out: &mut [u8]) -> Said
     }
     let made = Instrument::new(design_of(f));
     let reply = made.reply;
-    let DesignReply::Accepted = reply else {
+    let Ok(_) = reply else {
         let count = put_one(out, b"(refused ", refusal_of(reply));
         return Said { session: s, count };
     };

@@ -5,7 +5,7 @@
 use instrument::Instrument;
 use note::Note;
 use patterns::{bits, flag, put};
-use stream::{Cutoff, UnisonCopy};
+use stream::UnisonCopy;
 use text::put_literal;
 use voice::Voice;
 
@@ -21,8 +21,8 @@ fn copy(out: &mut [u8], at: usize, c: UnisonCopy) -> usize {
     ];
     let next = put(out, at, b" (W W W W W", values);
     match cutoff {
-        Cutoff::Unset => put(out, next, b" W -)", [bend, 0, 0, 0, 0]),
-        Cutoff::Set(x) => put(out, next, b" W W)", [bend, bits(x), 0, 0, 0]),
+        None => put(out, next, b" W -)", [bend, 0, 0, 0, 0]),
+        Some(x) => put(out, next, b" W W)", [bend, bits(x), 0, 0, 0]),
     }
 }
 

@@ -1,11 +1,10 @@
 -- Building copy k of n (document 01, "Copies, Plan and Mix", its first three sentences).
-use Rattle.std.specs.Prelude.{cond, ℕ, ◌-◌, leb, Float, pos}
+use Rattle.std.specs.Prelude.{cond, ℕ, ◌-◌, leb, Float, pos, None}
 use Rattle.std.specs.Float.{binary32}
 use Rattle.std.specs.Float.Ieee.{of_bits, of_int, add, sub, mul, div, eq, neg}
 use Rattle.float32.specs.Numbers.{zero, one, min_of, clamp_of}
 use Rattle.float32.specs.Root.{root_of}
 use Rattle.stream.specs.declared.UnisonCopy.{UnisonCopy}
-use Rattle.stream.specs.declared.Cutoff.TheVariants.{Unset}
 use Rattle.stream.specs.Pitch.{bent, cut_to}
 
 abbrev pub half : Float
@@ -39,7 +38,7 @@ new_copy k n width = record {
   pitch_target = one;
   glide = one;
   bend = one;
-  cutoff = Unset;
+  cutoff = None;
 }
 
 -- "bend and brightness not equal to 1 are then applied"

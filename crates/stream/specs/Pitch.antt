@@ -1,11 +1,9 @@
 -- The pitch of a copy (document 01, "Copies, Plan and Mix": the copy's record, and `glide_block`).
-use Rattle.std.specs.Prelude.{◌≡◌, cond, List, [], ◌∷◌, ℕ, zero, suc, Float, length}
+use Rattle.std.specs.Prelude.{◌≡◌, cond, List, [], ◌∷◌, ℕ, zero, suc, Float, length, Option, Some}
 use Rattle.std.specs.Float.{binary32}
 use Rattle.std.specs.Float.Ieee.{of_bits, add, sub, mul, is_nan}
 use Rattle.float32.specs.Numbers.{zero as +0, one, max_of, clamp_of}
 use Rattle.stream.specs.declared.UnisonCopy.{UnisonCopy}
-use Rattle.stream.specs.declared.Cutoff.{Cutoff}
-use Rattle.stream.specs.declared.Cutoff.TheVariants.{Set}
 
 -- a copy with another pitch, target and glide; with another bend; with another cutoff
 unfoldable pub pitched : UnisonCopy → Float → Float → Float → UnisonCopy
@@ -14,7 +12,7 @@ pitched c p t g = record { l = c.l; r = c.r; pitch = p; pitch_target = t; glide 
 unfoldable pub with_bend : UnisonCopy → Float → UnisonCopy
 with_bend c b = record { l = c.l; r = c.r; pitch = c.pitch; pitch_target = c.pitch_target; glide = c.glide; bend = b; cutoff = c.cutoff }
 
-unfoldable pub with_cutoff : UnisonCopy → Cutoff → UnisonCopy
+unfoldable pub with_cutoff : UnisonCopy → Option Float → UnisonCopy
 with_cutoff c k = record { l = c.l; r = c.r; pitch = c.pitch; pitch_target = c.pitch_target; glide = c.glide; bend = c.bend; cutoff = k }
 
 -- `set_bend`
@@ -27,7 +25,7 @@ least_cutoff = of_bits binary32 0x3c23_d70a
 
 -- `set_cutoff`: "the cutoff last set, at least 0.01 (3C23D70A)"
 unfoldable pub cut_to : Float → UnisonCopy → UnisonCopy
-cut_to x c = with_cutoff c (Set (max_of x least_cutoff))
+cut_to x c = with_cutoff c (Some (max_of x least_cutoff))
 
 -- the smallest normal float
 abbrev pub least_normal : Float

@@ -7,13 +7,6 @@ ghost use Rattle.std.specs.Prelude.{◌≡◌, ◌≤◌, length};
 ghost use Rattle.stream.specs.Copies.{spread_of, new_copy, unless_one, caught_up};
 ghost use Rattle.stream.specs.Pitch.{bent, cut_to, glided_to, GlidedOver};
 
-// The filter cutoff last set, for the host to read.
-#[derive(Clone, Copy)]
-pub enum Cutoff {
-    Unset,
-    Set(f32),
-}
-
 // A copy: its channel gains, the note's pitch scale on its way to a target, and the pitch wheel's factor.
 #[derive(Clone, Copy)]
 pub struct UnisonCopy {
@@ -23,7 +16,8 @@ pub struct UnisonCopy {
     pub pitch_target: f32,
     pub glide: f32,
     pub bend: f32,
-    pub cutoff: Cutoff,
+    // The filter cutoff last set, for the host to read.
+    pub cutoff: Option<f32>,
 }
 
 // Copies lie evenly over -1 to 1; a single one is in the middle.
@@ -50,7 +44,7 @@ impl UnisonCopy {
             pitch_target: 1.0,
             glide: 1.0,
             bend: 1.0,
-            cutoff: Cutoff::Unset,
+            cutoff: None,
         }
     }
 
@@ -113,7 +107,7 @@ impl UnisonCopy {
             pitch_target: self.pitch_target,
             glide: self.glide,
             bend: self.bend,
-            cutoff: Cutoff::Set(least),
+            cutoff: Some(least),
         }
     }
 

@@ -21,7 +21,7 @@ copies_made d = min (copies_of d) 8
 
 -- gated on, from zeros where the settings are refused
 unfoldable pub made_env : InstrumentDesign → EnvGen
-made_env d = gated_on (new_env d.amp.a d.amp.d d.amp.s d.amp.r d.sample_rate).env
+made_env d = gated_on (new_env d.amp.a d.amp.d d.amp.s d.amp.r d.sample_rate).state
 
 -- of a design, a bend, a brightness, a handle, a note and a velocity
 unfoldable pub made_voice : InstrumentDesign → Float → Float → ℕ → ℕ → Float → Seen

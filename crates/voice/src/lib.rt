@@ -279,7 +279,7 @@ pub fn new_voice(
     let copies = new_copies(n, design.unison_width, bend, brightness);
     let amp = design.amp;
     let start = EnvGen::new(amp.a, amp.d, amp.s, amp.r, design.sample_rate);
-    let env = start.env.gate_on();
+    let env = start.state.gate_on();
     let pitch = Note(note);
     let built_hz = pitch.freq();
     Voice {

@@ -1,4 +1,5 @@
 -- From the parts of a voice or a state to the whole: what its numbers stand for, and whether they stand for a state.
+use Rattle.std.specs.Prelude.{Some, None}
 use mathlib.Core.Path.{◌≡◌, refl, ap, sym, ◌∙◌}
 use mathlib.Core.Bool.{Bool, true, false, ◌&&◌}
 use mathlib.Core.List.{List, [], ◌∷◌, map, map-map}
@@ -8,7 +9,6 @@ use lib.ListN.{take}
 use Rattle.lists.specs.Choose.{both}
 use Rattle.lists.specs.All.{all, all_map}
 use Rattle.stream.specs.declared.UnisonCopy.{UnisonCopy}
-use Rattle.stream.specs.declared.Cutoff.TheVariants.{Unset, Set}
 use Rattle.voice.specs.View.{Seen, seen}
 use Rattle.voice.specs.declared.Voice.{Voice}
 use Rattle.table.specs.View.{seen_in, voices_of, in_room}
@@ -21,11 +21,11 @@ use Rattle.wire.specs.declared.HostState.{HostState}
 use Rattle.wire.proofs.Loops.{all_alike}
 
 module _ (c : UnisonCopy) (r : HostCopy) (x : Float) where
-  pub copy-unset : c.cutoff ≡ Unset → r ≡ copy_with c 0 x → (copy_of r ≡ c) × (copy_numbered r ≡ true)
+  pub copy-unset : c.cutoff ≡ None → r ≡ copy_with c 0 x → (copy_of r ≡ c) × (copy_numbered r ≡ true)
   unfolding copy_of cutoff_of copy_with
   copy-unset e q = rw (q, ← e) (refl, refl)
 
-  pub copy-set : c.cutoff ≡ Set x → r ≡ copy_with c 1 x → (copy_of r ≡ c) × (copy_numbered r ≡ true)
+  pub copy-set : c.cutoff ≡ Some x → r ≡ copy_with c 1 x → (copy_of r ≡ c) × (copy_numbered r ≡ true)
   unfolding copy_of cutoff_of copy_with
   copy-set e q = rw (q, ← e) (refl, refl)
 

@@ -1,6 +1,6 @@
 -- What the numbers of a host's state stand for in the model (document 01, "Well formed", last sentence: a state is read up to its counts),
 -- and which numbers stand for a state at all.
-use Rattle.std.specs.Prelude.{Bool, true, false, not, ◌&&◌, cond, ◌≡◌, map, ℕ, leb, eqb, Float, take}
+use Rattle.std.specs.Prelude.{Bool, true, false, not, ◌&&◌, cond, ◌≡◌, map, ℕ, leb, eqb, Float, take, Option, Some, None}
 use Rattle.lists.specs.All.{all}
 use Rattle.envelope.specs.declared.EnvGen.{EnvGen}
 use Rattle.envelope.specs.declared.Stage.{Stage}
@@ -9,8 +9,6 @@ use Rattle.design.specs.declared.InstrumentDesign.{InstrumentDesign}
 use Rattle.design.specs.declared.PlayMode.{PlayMode}
 use Rattle.design.specs.declared.PlayMode.TheVariants.{Poly, Mono}
 use Rattle.stream.specs.declared.UnisonCopy.{UnisonCopy}
-use Rattle.stream.specs.declared.Cutoff.{Cutoff}
-use Rattle.stream.specs.declared.Cutoff.TheVariants.{Unset, Set}
 use Rattle.model.specs.Types as model
 use Rattle.voice.specs.View.{Seen}
 use Rattle.instrument.specs.View.{view, counted}
@@ -34,8 +32,8 @@ unfoldable pub stage_of : ℕ → Stage
 stage_of n = cond (eqb n 0) Idle (cond (eqb n 1) Attack (cond (eqb n 2) Decay (cond (eqb n 3) Sustain Release)))
 
 -- a new copy has no cutoff: the number is looked at only where one was set (document 01, "Copies, Plan and Mix")
-unfoldable pub cutoff_of : HostCopy → Cutoff
-cutoff_of c = cond (flag_of c.cutoff_set) (Set c.cutoff) Unset
+unfoldable pub cutoff_of : HostCopy → Option Float
+cutoff_of c = cond (flag_of c.cutoff_set) (Some c.cutoff) None
 
 -- a design, number by number (document 01, "The script program": the words of a design)
 unfoldable pub design_of : HostDesign → InstrumentDesign

@@ -15,7 +15,7 @@ use held::Held;
 use instrument::Instrument;
 use lists::smaller;
 use note::Note;
-use stream::{Cutoff, UnisonCopy};
+use stream::UnisonCopy;
 use table::Table;
 use voice::Voice;
 
@@ -173,9 +173,9 @@ pub fn read_env(e: HostEnv) -> EnvGen
 fn read_copy(c: HostCopy) -> UnisonCopy
     ensures { result ≡ copy_of c }
 {
-    let mut cutoff = Cutoff::Unset;
+    let mut cutoff = None;
     if c.cutoff_set != 0 {
-        cutoff = Cutoff::Set(c.cutoff);
+        cutoff = Some(c.cutoff);
     }
     UnisonCopy {
         l: c.l,

@@ -13,7 +13,7 @@ use design::{InstrumentDesign, PlayMode};
 use envelope::{EnvGen, Stage};
 use instrument::Instrument;
 use note::Note;
-use stream::{Cutoff, UnisonCopy};
+use stream::UnisonCopy;
 use voice::Voice;
 
 pub fn mode_numbered(d: HostDesign) -> bool
@@ -176,8 +176,8 @@ fn write_copy(c: UnisonCopy) -> HostCopy
 {
     let cutoff = c.cutoff;
     match cutoff {
-        Cutoff::Unset => cut_copy(c, 0, 0.0),
-        Cutoff::Set(x) => cut_copy(c, 1, x),
+        None => cut_copy(c, 0, 0.0),
+        Some(x) => cut_copy(c, 1, x),
     }
 }
 

@@ -17,5 +17,5 @@ returns-in_default c =
 pub returns : goal.returns
 returns c =
     design-ready c.args.s.ready c.args.s c.args.f _ c.new-made.result _ _ _ c.if-s.false c.design_of.ensures
-    c.new-made.ensures c.in-Accepted.is
+    c.new-made.ensures c.in-Ok.is
     (printed _ _ _ _ (puts _ _ _ _ _ c.put_literal-count.ensures) (omega arith) c.requires.in_bounds)

@@ -16,5 +16,5 @@ int_to_float-env c = rate-float _ (sym c.rate_fits.ensures ∙ c.if-not-rate_fit
 pub returns : goal.returns
 unfolding settled
 returns c =
-    rw (c.max.ensures, c.max-2.ensures, c.clamp.ensures, c.max-3.ensures)
+    rw (c.answered.ensures, c.max.ensures, c.max-2.ensures, c.clamp.ensures, c.max-3.ensures)
     (new-ready _ _ _ _ _ (sym c.rate_fits.ensures ∙ c.if-not-rate_fits.false) (sym c.all_finite.ensures ∙ c.if-not-all_finite.false))
