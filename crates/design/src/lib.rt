@@ -8,7 +8,7 @@ ghost use Rattle.design.specs.Zeros.{zero_design};
 ghost use Rattle.design.specs.Accepted.{lfo_active, modulated, modulation_finite, numbers_fit, floats_fit, design_reply, copies_of};
 
 // How notes share voices.
-#[derive(Clone, Copy)]
+#[derive(Clone, Copy, PartialEq, Eq)]
 pub enum PlayMode {
     Poly,
     // One voice at a time; `legato` keeps its envelope running.

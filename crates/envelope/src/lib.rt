@@ -8,7 +8,7 @@ ghost use Rattle.envelope.specs.Gates.{at, gated_on, gated_off, killed, is_activ
 ghost use Rattle.envelope.specs.Ticks.{ticked, ticked_attack, ticked_decay, ticked_release};
 
 // Stage of a gated envelope.
-#[derive(Clone, Copy)]
+#[derive(Clone, Copy, PartialEq, Eq)]
 pub enum Stage {
     Idle,
     Attack,
