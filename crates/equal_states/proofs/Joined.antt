@@ -1,41 +1,25 @@
 -- Answers to several questions, joined by `&`.
-use mathlib.Core.Path.{◌≡◌, refl, ap, sym, ◌∙◌}
-use mathlib.Core.Bool.{Bool, true, false, ◌&&◌, beq, true≢false, false≢true}
-use Prim.Native.Nat.{ℕ}
-use borrow.Author.Tests.{eqb-true, eqb-false}
+use Rattle.std.proofs.Common.{◌≡◌, ℕ, Bool, true, ap, sym, ◌∙◌}
+use Rattle.std.specs.Bool.{Decides}
+use Rattle.std.specs.Prelude.{Float}
+use Rattle.std.specs.Float.{binary32}
+use Rattle.std.specs.Float.Ieee.{of_bits, to_bits}
+use Rattle.std.proofs.lemmas.Bool.Decides.{Decides-and, Decides-eqb}
 use denote.Floats.{passes}
 use lib.Dec.{eqb}
-use lib.Ieee.{Float, binary32, fits, of_bits, to_bits}
+use lib.Ieee.{fits}
 use lib.Ieee.Bits.{of_bits-to_bits}
-use Rattle.equal_states.specs.Same.{Decides}
+use mathlib.Core.Bool.{◌&&◌}
 
 infixl 5 ◌&◌
-pub holds : {P : Type 0} → P → Decides true P
-holds p = record { yes = λ _. p; no = λ e _. true≢false e }
-
-pub fails : {P : Type 0} → (P → ⊥) → Decides false P
-fails f = record { yes = λ e. absurd (false≢true e); no = λ _ p. f p }
+pub ◌&◌ : {x y : Bool} {P Q : Type 0} → Decides x P → Decides y Q → Decides (x && y) (P × Q)
+◌&◌ {x} {y} d e = Decides-and x y d e
 
 -- the same question in other words
 pub means : {r : Bool} {P Q : Type 0} → (P → Q) → (Q → P) → Decides r P → Decides r Q
-means f g d = record { yes = λ e. f (d.yes e); no = λ e q. d.no e (g q) }
-
-pub ◌&◌ : {x y : Bool} {P Q : Type 0} → Decides x P → Decides y Q → Decides (x && y) (P × Q)
-◌&◌ {x = true} d e = record { yes = λ q. (d.yes refl, e.yes q); no = λ q p. e.no q p.1 }
-◌&◌ {x = false} d e = fails (λ p. d.no refl p.0)
-
-pub numbers : (m n : ℕ) → Decides (eqb m n) (m ≡ n)
-numbers m n = record { yes = eqb-true m n; no = eqb-false m n }
-
-pub flags : (a b : Bool) → Decides (beq a b) (a ≡ b)
-flags true true = holds refl
-flags true false = fails true≢false
-flags false true = fails false≢true
-flags false false = holds refl
-
--- by a number for each value, from which g gets the value back
-pub by_number : {A : Type 0} (f : A → ℕ) (g : ℕ → A) (a b : A) (m n : ℕ) → g (f a) ≡ a → g (f b) ≡ b → m ≡ f a → n ≡ f b → Decides (eqb m n) (a ≡ b)
-by_number f g a b m n back_a back-b p q = means (λ e. sym back_a ∙ ap g (sym p ∙ e ∙ q) ∙ back-b) (λ e. p ∙ ap f e ∙ sym q) (numbers m n)
+means f g d = ((λ e. f (d.0 e)), λ q. d.1 (g q))
 
 pub by_bits : (x y : Float) (m n : ℕ) → fits binary32 x ≡ true → fits binary32 y ≡ true → m ≡ to_bits binary32 x → n ≡ to_bits binary32 y → Decides (eqb m n) (x ≡ y)
-by_bits x y m n p q = by_number (to_bits binary32) (of_bits binary32) x y m n (of_bits-to_bits binary32 x (passes _ p)) (of_bits-to_bits binary32 y (passes _ q))
+by_bits x y m n p q d e =
+    let back : (z : Float) → fits binary32 z ≡ true → of_bits binary32 (to_bits binary32 z) ≡ z = λ z f. of_bits-to_bits binary32 z (passes _ f) in
+    means (λ h. sym (back x p) ∙ ap (of_bits binary32) (sym d ∙ h ∙ e) ∙ back y q) (λ h. d ∙ ap (to_bits binary32) h ∙ sym e) (Decides-eqb m n)

@@ -1,5 +1,4 @@
 pub mod Joined
-pub mod Variants
 pub mod Prefixes
 pub mod Records
 pub mod Rooms

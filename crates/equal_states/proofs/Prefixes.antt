@@ -1,35 +1,29 @@
--- Two arrays up to a count, compared from the front.
-use mathlib.Core.Path.{◌≡◌, ap, sym, ◌∙◌}
-use mathlib.Core.Bool.{Bool, true, false}
-use mathlib.Core.List.{List, [], ◌∷◌, ◌++◌, map, map-append, map-id}
-use Prim.Native.Nat.{ℕ, ◌+◌, ◌<◌, min}
-use native.Mathlib.Omega.{arith}
-use lib.ListN.{length, take, get_or}
-use Rattle.lists.specs.Prefix.{take_more, take_min, shown-any}
-use Rattle.equal_states.specs.Same.{Decides}
-use Rattle.equal_states.proofs.Joined.{holds, fails, means}
+-- Items of a slice, each by what it shows; and two arrays up to a count.
+use Rattle.std.proofs.Common.{◌≡◌, ap, Iter, length, List, map, sym, ◌∙◌, subst}
+use Rattle.std.proofs.iter.Yields.{fronts}
+use Rattle.std.specs.Slice.Iter.{iter_rest}
+use Rattle.std.proofs.lemmas.Iterator.{YieldsList}
+use Rattle.std.proofs.lemmas.Iterator.Consumers.{YieldsList-from_shown}
+use Rattle.std.proofs.lemmas.List.{length-map}
+use Rattle.std.specs.Bool.{Decides}
+use Rattle.std.specs.Prelude.{Bool, ℕ, min, take}
+use Rattle.lists.specs.Prefix.{take_min}
+use Rattle.equal_states.proofs.Joined.{means}
+use mathlib.Core.List.{map-id}
 
--- as they are, without a view
-pub plain : {A : Type 0} {r : Bool} (xs ys : List A) → Decides r (map (λ (x : A). x) xs ≡ map (λ (x : A). x) ys) → Decides r (xs ≡ ys)
-plain {A = A} xs ys = means (λ e. sym (map-id xs) ∙ e ∙ map-id ys) (ap (map (λ (x : A). x)))
+pub yields_shown : {A B : Type 0} (f : A → B) {s : Iter A} (xs : List A) → iter_rest s ≡ xs → YieldsList fronts (λ y. f y.now) s (map f xs)
+yields_shown f {s} xs e =
+    subst (λ l. YieldsList fronts (λ y. f y.now) s (map f l)) e
+    (YieldsList-from_shown fronts (λ y. f y.now) (λ t. map f (iter_rest t)) (λ p q m. length-map _ f ∙ m.0) (λ p x q m. ap (map f) m) s)
 
--- through a view f: arrays of size m, read up to `end`
-module _ {A B : Type 0} (f : A → B) (m : ℕ) (xs ys : List A) (lx : length xs ≡ m) (ly : length ys ≡ m) (n end : ℕ) (e : end ≡ min n m) where
+-- up to the smaller of a count and the arrays' size is up to the count
+module _ {A B : Type 0} (f : A → B) (m : ℕ) (n end : ℕ) (e : end ≡ min n m) where
   least : (zs : List A) → length zs ≡ m → map f (take end zs) ≡ map f (take n zs)
   least zs l = rw e (ap (map f) (take_min n m zs l))
 
-  module _ (i : ℕ) (d : A) (h : i < end) where
-    first-at : (zs : List A) → length zs ≡ m → map f (take (i + 1) zs) ≡ map f (take i zs) ++ (f (get_or zs i d) ∷ [])
-    first-at zs l = let k : i < length zs = omega arith in rw (take_more zs i d, map-append)
+  pub up_to : {r : Bool} (xs ys : List A) → length xs ≡ m → length ys ≡ m → Decides r (map f (take end xs) ≡ map f (take end ys)) → Decides r (map f (take n xs) ≡ map f (take n ys))
+  up_to xs ys k l = means (λ q. sym (least xs k) ∙ q ∙ least ys l) (λ q. least xs k ∙ q ∙ sym (least ys l))
 
-    pub first_more : map f (take i xs) ≡ map f (take i ys) → f (get_or xs i d) ≡ f (get_or ys i d) → map f (take (i + 1) xs) ≡ map f (take (i + 1) ys)
-    first_more p q = first-at xs lx ∙ rw (p, q) (sym (first-at ys ly))
-
-    at : (zs : List A) → length zs ≡ m → get_or (map f (take end zs)) i (f d) ≡ f (get_or zs i d)
-    at zs l = shown-any f end zs i d (f d) (omega arith) h
-
-    pub first-differ : (f (get_or xs i d) ≡ f (get_or ys i d) → ⊥) → Decides false (map f (take n xs) ≡ map f (take n ys))
-    first-differ w = fails (λ q. w (sym (at xs lx) ∙ ap (λ (l : List B). get_or l i (f d)) (least xs lx ∙ q ∙ sym (least ys ly)) ∙ at ys ly))
-
-  pub first-all : (i : ℕ) → i ≡ end → map f (take i xs) ≡ map f (take i ys) → Decides true (map f (take n xs) ≡ map f (take n ys))
-  first-all i q p = holds (sym (least xs lx) ∙ (rw q at p) ∙ least ys ly)
+-- as they are, without a view
+pub plain : {A : Type 0} {r : Bool} (xs ys : List A) → Decides r (map (λ (x : A). x) xs ≡ map (λ (x : A). x) ys) → Decides r (xs ≡ ys)
+plain {A} xs ys = means (λ e. sym (map-id xs) ∙ e ∙ map-id ys) (ap (map (λ (x : A). x)))

@@ -1,6 +1,7 @@
 -- From answers on the parts of a voice or a state to the answer on the whole.
 use mathlib.Core.Path.{◌≡◌, ap, sym, ◌∙◌}
 use mathlib.Core.Bool.{Bool}
+use mathlib.Core.List.{List}
 use Prim.Native.Nat.{ℕ}
 use lib.ListN.{take}
 use Rattle.model.specs.Types as model
@@ -12,7 +13,8 @@ use Rattle.held.specs.View.{held_first, held_in}
 use Rattle.held.specs.declared.Held.{Held}
 use Rattle.instrument.specs.View.{view}
 use Rattle.instrument.specs.declared.Instrument.{Instrument}
-use Rattle.equal_states.specs.Same.{Decides, SameTable, SameHeld, SameScales, Same}
+use Rattle.equal_states.specs.Same.{table_shown, held_shown, SameScales, Same}
+use Rattle.std.specs.Bool.{Decides}
 use Rattle.equal_states.proofs.Joined.{means}
 
 -- the copies are compared up to the first voice's count
@@ -61,23 +63,23 @@ module _ (a b : Table) where
   revoice : a.count ≡ b.count → seen_first a.count b.voices ≡ seen_in b
   revoice = ap (λ (n : ℕ). seen_first n b.voices)
 
-  pub table-parts : {r : Bool} → Decides r ((a.count ≡ b.count) × (seen_in a ≡ seen_first a.count b.voices)) → Decides r (SameTable a b)
-  table-parts = means (λ p. record { count = p.0; seen = p.1 ∙ revoice p.0 }) (λ t. (t.count, t.seen ∙ sym (revoice t.count)))
+  pub table-parts : {r : Bool} → Decides r ((a.count ≡ b.count) × (seen_in a ≡ seen_first a.count b.voices)) → Decides r (table_shown a ≡ table_shown b)
+  table-parts = means (λ p i. (p.0 i, (p.1 ∙ revoice p.0) i)) (λ q. let n = ap (λ (x : ℕ × List Seen). x.0) q in (n, ap (λ (x : ℕ × List Seen). x.1) q ∙ sym (revoice n)))
 
 -- and so are the held notes
 module _ (a b : Held) where
   reheld : a.count ≡ b.count → held_first a.count b.notes ≡ held_in b
   reheld = ap (λ (n : ℕ). held_first n b.notes)
 
-  pub held-parts : {r : Bool} → Decides r ((a.count ≡ b.count) × (held_in a ≡ held_first a.count b.notes)) → Decides r (SameHeld a b)
-  held-parts = means (λ p. record { count = p.0; notes = p.1 ∙ reheld p.0 }) (λ t. (t.count, t.notes ∙ sym (reheld t.count)))
+  pub held-parts : {r : Bool} → Decides r ((a.count ≡ b.count) × (held_in a ≡ held_first a.count b.notes)) → Decides r (held_shown a ≡ held_shown b)
+  held-parts = means (λ p i. (p.0 i, (p.1 ∙ reheld p.0) i)) (λ q. let n = ap (λ (x : ℕ × List ℕ). x.0) q in (n, ap (λ (x : ℕ × List ℕ). x.1) q ∙ sym (reheld n)))
 
 module _ (a b : Instrument) where
   abbrev Numbers : Type 0
-  Numbers = (((a.design ≡ b.design) × SameTable a.table b.table) × (a.next_handle ≡ b.next_handle)) × (a.sustain ≡ b.sustain)
+  Numbers = (((a.design ≡ b.design) × (table_shown a.table ≡ table_shown b.table)) × (a.next_handle ≡ b.next_handle)) × (a.sustain ≡ b.sustain)
 
   abbrev pub StateParts : Type 0
-  StateParts = ((Numbers × SameScales a b) × SameHeld a.held b.held) × (a.frames ≡ b.frames)
+  StateParts = ((Numbers × SameScales a b) × (held_shown a.held ≡ held_shown b.held)) × (a.frames ≡ b.frames)
 
   from_parts : StateParts → Same a b
   unfolding view
@@ -86,11 +88,11 @@ module _ (a b : Instrument) where
       let f = p.0.0.1 in
       let h = p.0.1 in
       record {
-        table = t;
-        held = h;
+        table = record { count = ap (λ (x : ℕ × List Seen). x.0) t; seen = ap (λ (x : ℕ × List Seen). x.1) t };
+        held = record { count = ap (λ (x : ℕ × List ℕ). x.0) h; notes = ap (λ (x : ℕ × List ℕ). x.1) h };
         view = λ i. record {
           design = p.0.0.0.0.0.0 i;
-          voices = voices_of (t.seen i);
+          voices = voices_of ((t i).1);
           next = p.0.0.0.0.1 i;
           pedal = p.0.0.0.1 i;
           bend = f.bend i;
@@ -99,7 +101,7 @@ module _ (a b : Instrument) where
           flt_phase = f.flt_phase i;
           trem_phase = f.trem_phase i;
           trem = f.trem i;
-          held = h.notes i;
+          held = (h i).1;
           frames = p.1 i;
         };
       }
@@ -116,7 +118,9 @@ module _ (a b : Instrument) where
         trem_phase = ap (λ (m : model.Model). m.trem_phase) v;
         trem = ap (λ (m : model.Model). m.trem) v;
       } in
-      ((((((ap (λ (m : model.Model). m.design) v, s.table), ap (λ (m : model.Model). m.next) v), ap (λ (m : model.Model). m.pedal) v), f), s.held), ap (λ (m : model.Model). m.frames) v)
+      let table : table_shown a.table ≡ table_shown b.table = λ i. (s.table.count i, s.table.seen i) in
+      let held : held_shown a.held ≡ held_shown b.held = λ i. (s.held.count i, s.held.notes i) in
+      ((((((ap (λ (m : model.Model). m.design) v, table), ap (λ (m : model.Model). m.next) v), ap (λ (m : model.Model). m.pedal) v), f), held), ap (λ (m : model.Model). m.frames) v)
 
   pub state-parts : {r : Bool} → Decides r StateParts → Decides r (Same a b)
   state-parts = means from_parts to-parts

@@ -28,7 +28,8 @@ use Rattle.instrument.specs.contracts.Instrument as IT
 use Rattle.instrument.proofs.Calls.{counts}
 use Rattle.voice.proofs.Sizes.{copies-long}
 use Rattle.instrument.proofs.Sizes.{voices-long, held-long}
-use Rattle.equal_states.specs.Same.{Decides, Same, SameAs}
+use Rattle.equal_states.specs.Same.{Same, SameAs}
+use Rattle.std.specs.Bool.{Decides}
 use Rattle.equal_states.proofs.Joined.{means}
 
 -- every voice has room for 8 copies

@@ -1,6 +1,8 @@
 -- When two states are the same (document 01, "Well formed", last sentence: a state is read up to its counts; and its first paragraph:
 -- "In comparisons any NaN equals any NaN", so floats are compared as the values of the definitions, where there is one NaN and two zeros).
-use Rattle.std.specs.Prelude.{◌≡◌, Bool, true, false}
+use Rattle.std.specs.Prelude.{◌≡◌, Bool, true, List, ℕ}
+use Rattle.std.specs.Bool.{Decides}
+use Rattle.voice.specs.View.{Seen}
 use Rattle.table.specs.View.{seen_in}
 use Rattle.table.specs.declared.Table.{Table}
 use Rattle.held.specs.View.{held_in}
@@ -8,10 +10,12 @@ use Rattle.held.specs.declared.Held.{Held}
 use Rattle.instrument.specs.View.{view, counted}
 use Rattle.instrument.specs.declared.Instrument.{Instrument}
 
--- the answer r is whether P holds
-pub record Decides (r : Bool) (P : Type 0) : Type 0 where
-  pub yes : r ≡ true → P
-  pub no : r ≡ false → P → ⊥
+-- what is compared of a table and of the held notes: the count as it stands, and what it shows
+abbrev pub table_shown : Table → ℕ × List Seen
+table_shown t = (t.count, seen_in t)
+
+abbrev pub held_shown : Held → ℕ × List ℕ
+held_shown h = (h.count, held_in h)
 
 -- the same voices up to the count, each with its count of copies as it stands
 pub record SameTable (a b : Table) : Type 0 where

@@ -6,9 +6,9 @@ returns c =
     means
     (λ p. record { bend = p.0.0.0.0.0; brightness = p.0.0.0.0.1; vib_phase = p.0.0.0.1; flt_phase = p.0.0.1; trem_phase = p.0.1; trem = p.1 })
     (λ s. (((((s.bend, s.brightness), s.vib_phase), s.flt_phase), s.trem_phase), s.trem))
-    (c.float_same.ensures
-    & c.float_same-2.ensures
-    & c.float_same-3.ensures
-    & c.float_same-4.ensures
-    & c.float_same-5.ensures
-    & c.float_same-6.ensures)
+    (c.alike.ensures
+    & c.alike-2.ensures
+    & c.alike-3.ensures
+    & c.alike-4.ensures
+    & c.alike-5.ensures
+    & c.alike-6.ensures)
