@@ -10,7 +10,7 @@ use Rattle.midi.specs.Messages.{event, message}
 use Rattle.midi.specs.Steps.{scan_of, first_data, data_byte, fed}
 use Rattle.midi.specs.declared.Part.TheVariants.{Nothing, Status, First}
 use Rattle.midi.specs.declared.Scan.{Scan}
-use Rattle.midi.specs.declared.Fed.TheVariants.{More, Event}
+use Rattle.std.specs.declared.ops.ControlFlow.TheVariants.{Continue, Break}
 
 module _ (low high b : ℕ) where
   pub amid : low ≤ b → b ≤ high → within low high b ≡ true
@@ -31,10 +31,10 @@ module _ (low high b : ℕ) where
       by false p = let h = leb-false low b p in omega arith
 
 module _ (status b : ℕ) where
-  pub first-last : takes_one status ≡ true → first_data status b ≡ Event (event (message status b 0))
+  pub first-last : takes_one status ≡ true → first_data status b ≡ Break (event (message status b 0))
   first-last e = rw e
 
-  pub first-kept : takes_one status ≡ false → first_data status b ≡ More (scan_of status (First b))
+  pub first-kept : takes_one status ≡ false → first_data status b ≡ Continue (scan_of status (First b))
   first-kept e = rw e
 
 -- a data byte is in none of the ranges
@@ -49,22 +49,22 @@ module _ (b : ℕ) (h : b < 0x80) where
   not-status = under 0x80 0xEF b h
 
 module _ (scan : Scan) (b : ℕ) where
-  pub fed-real : real_time b ≡ true → fed scan b ≡ More scan
+  pub fed-real : real_time b ≡ true → fed scan b ≡ Continue scan
   fed-real e = rw e
 
   module _ (r : real_time b ≡ false) where
-    pub fed-system : exclusive_or_common b ≡ true → fed scan b ≡ More (scan_of 0 Nothing)
+    pub fed-system : exclusive_or_common b ≡ true → fed scan b ≡ Continue (scan_of 0 Nothing)
     fed-system e = rw (r, e)
 
     -- the only range that is left
-    pub fed-status : exclusive_or_common b ≡ false → 0x80 ≤ b → b ≤ 0xFF → fed scan b ≡ More (scan_of b Status)
+    pub fed-status : exclusive_or_common b ≡ false → 0x80 ≤ b → b ≤ 0xFF → fed scan b ≡ Continue (scan_of b Status)
     fed-status e low high =
         let f8 = not-amid 0xF8 0xFF b r high in
         let f0 = not-amid 0xF0 0xF7 b e (omega arith) in
         rw (r, e, amid 0x80 0xEF b low (omega arith))
 
   module _ (h : b < 0x80) where
-    pub fed-no-status : no_status scan.status ≡ true → fed scan b ≡ More scan
+    pub fed-no-status : no_status scan.status ≡ true → fed scan b ≡ Continue scan
     fed-no-status e = rw (not-real b h, not-system b h, not-status b h, e)
 
     pub fed-data : no_status scan.status ≡ false → fed scan b ≡ data_byte scan.status scan.part b

@@ -10,19 +10,17 @@ use lib.Dec.{leb, eqb}
 use lib.Ieee.{binary32, to_bits, of_bits, of_int, div}
 use lib.ListN.{drop}
 use Rattle.midi.specs.Bytes.{within, real_time, exclusive_or_common, channel_status}
-use Rattle.midi.specs.Answers.{values, limits}
+use Rattle.midi.specs.Answers.{told, Answer, values, limits}
 use Rattle.midi.specs.Messages.{Message, note_off, note_on, key_pressure, control, program, channel_pressure, pitch_bend, velocity_of, note_on_event, control_event, event, kind, message}
-use Rattle.midi.specs.Steps.{scan_of, on_fed, answered, at_end, reading, stepped}
+use Rattle.midi.specs.Steps.{Fed, Stepped, scan_of, on_fed, answered, at_end, reading, stepped}
 use Rattle.midi.specs.Streams.{AtMost}
-use Rattle.midi.specs.declared.Answer.{Answer}
-use Rattle.midi.specs.declared.Answer.TheVariants.{On, Off, Pedal, AllOff, Other}
+use Rattle.midi.specs.declared.Event.{Event}
+use Rattle.midi.specs.declared.Event.TheVariants.{On, Off, Pedal, AllOff, Other}
 use Rattle.midi.specs.declared.Cursor.{Cursor}
-use Rattle.midi.specs.declared.Outcome.{Outcome}
 use Rattle.midi.specs.declared.Part.{Part}
 use Rattle.midi.specs.declared.Part.TheVariants.{Nothing, Status, First}
 use Rattle.midi.specs.declared.Scan.{Scan}
-use Rattle.midi.specs.declared.Fed.{Fed}
-use Rattle.midi.specs.declared.Fed.TheVariants.{More}
+use Rattle.std.specs.declared.ops.ControlFlow.TheVariants.{Continue}
 use Rattle.midi.proofs.Scanned.{picked, impossible, data-cases, fed-cases}
 use Rattle.midi.proofs.Whole.{step-cases}
 
@@ -70,10 +68,10 @@ bit-low true = omega arith
 bit-low false = omega arith
 
 module _ (status a b : ℕ) (ha : a < 128) (hb : b < 128) where
-  note-on-limited : (P : Answer → Type 0) → P (Off a) → P (On a (velocity_of b)) → P (note_on_event a b)
+  note-on-limited : (P : Event → Type 0) → P (Off a) → P (On a (velocity_of b)) → P (note_on_event a b)
   note-on-limited P off on = picked P (eqb b 0) (λ _. off) (λ _. on)
 
-  control-limited : (P : Answer → Type 0) → P (Pedal (leb 64 b)) → P AllOff → P Other → P (control_event a b)
+  control-limited : (P : Event → Type 0) → P (Pedal (leb 64 b)) → P AllOff → P Other → P (control_event a b)
   control-limited P pedal all other = picked P (eqb a 64) (λ _. pedal) (λ _. picked P (within 123 127 a) (λ _. all) (λ _. other))
 
   message-cases : (P : Message → Type 0)
@@ -88,13 +86,13 @@ module _ (status a b : ℕ) (ha : a < 128) (hb : b < 128) where
       (λ _. picked P (eqb (kind status) 0xC) (λ _. x_c _)
       (λ _. picked P (eqb (kind status) 0xD) (λ _. x_d _) (λ _. x_e _))))))
 
-  event-limited : Limited (event (message status a b))
+  event-limited : Limited (told (event (message status a b)))
   event-limited =
-      message-cases (λ (m : Message). Limited (event m))
+      message-cases (λ (m : Message). Limited (told (event m)))
       (λ c. (omega arith, tt))
-      (λ c. note-on-limited Limited (omega arith, tt) (omega arith, (velocity-low b hb, tt)))
+      (λ c. note-on-limited (λ e. Limited (told e)) (omega arith, tt) (omega arith, (velocity-low b hb, tt)))
       (λ c. tt)
-      (λ c. control-limited Limited (bit-low (leb 64 b), tt) tt tt)
+      (λ c. control-limited (λ e. Limited (told e)) (bit-low (leb 64 b), tt) tt tt)
       (λ c. tt)
       (λ c. tt)
       (λ c. (omega arith, tt))
@@ -122,17 +120,17 @@ Low Nothing = Unit
 Low Status = Unit
 Low (First a) = a < 128
 
-end-limited : (from : Cursor) (part : Part) (place status : ℕ) → Limited (at_end from part place status).answer
+end-limited : (from : Cursor) (part : Part) (place status : ℕ) → Limited (at_end from part place status).reply
 end-limited from Nothing place status = tt
 end-limited from Status place status = (omega arith, tt)
 end-limited from (First a) place status = (omega arith, tt)
 
 reading-limited : (bytes : List ℕ) → ((b : ℕ) → Mem b bytes → b < 256) → (from : Cursor) (scan : Scan) (place : ℕ) → Low scan.part
-    → Limited (reading from scan place bytes).answer
+    → Limited (reading from scan place bytes).reply
 reading-limited [] h from scan place l = end-limited from scan.part place scan.status
 reading-limited (b ∷ rest) h from scan place l =
-    let P : Fed → Type 0 = λ f. Limited (on_fed f (λ next. reading from next (place + 1) rest) (λ a. answered a (place + 1) scan.status)).answer in
-    let more : (next : Scan) → Low next.part → P (More next) =
+    let P : Fed → Type 0 = λ f. Limited (on_fed f (λ next. reading from next (place + 1) rest) (λ e. answered (told e) (place + 1) scan.status)).reply in
+    let more : (next : Scan) → Low next.part → P (Continue next) =
     λ next l'. reading-limited rest (λ x m. h x (mem-cons_of_mem b m)) from next (place + 1) l' in
     let low : b < 256 = h b mem-cons_self in
     fed-cases P scan b (more scan l) (more (scan_of 0 Nothing) tt) (λ _. more (scan_of b Status) tt)
@@ -146,7 +144,7 @@ mem-drop (suc n) [] m = m
 mem-drop (suc n) (x ∷ l) m = mem-cons_of_mem x (mem-drop n l m)
 
 pub limited : (stream : List ℕ) → ((b : ℕ) → Mem b stream → b < 256) → (c : Cursor)
-    → AtMost (values (stepped stream c).answer) (limits (stepped stream c).answer)
+    → AtMost (values (stepped stream c).reply) (limits (stepped stream c).reply)
 limited stream h c =
-    step-cases stream c (λ (r : Outcome). Limited r.answer) (omega arith, tt)
+    step-cases stream c (λ (r : Stepped). Limited r.reply) (omega arith, tt)
     (λ _ _. reading-limited (drop c.place stream) (λ b m. h b (mem-drop c.place stream m)) c (scan_of c.status Nothing) c.place tt)

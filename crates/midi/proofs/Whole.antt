@@ -7,17 +7,15 @@ use native.Mathlib.Omega.{arith}
 use borrow.Author.Tests.{ltb-false, not-false}
 use lib.ListN.{length, drop, length-drop}
 use Rattle.midi.specs.Bytes.{real_time, may_run}
-use Rattle.midi.specs.Answers.{bad_cursor, number, is_event}
-use Rattle.midi.specs.Steps.{scan_of, fed, on_fed, refused, reading, beyond, stepped}
+use Rattle.outcome.specs.declared.Refusal.TheVariants.{NoSuchPlace}
+use Rattle.midi.specs.Answers.{Answer, told, ended as end, number, is_event}
+use Rattle.midi.specs.Steps.{Fed, Stepped, scan_of, fed, on_fed, refused, reading, beyond, stepped}
 use Rattle.midi.specs.Streams.{answers, start, steps_for, answers_of}
-use Rattle.midi.specs.declared.Answer.{Answer}
-use Rattle.midi.specs.declared.Answer.TheVariants.{End}
+use Rattle.midi.specs.declared.Event.{Event}
 use Rattle.midi.specs.declared.Cursor.{Cursor}
-use Rattle.midi.specs.declared.Outcome.{Outcome}
 use Rattle.midi.specs.declared.Part.TheVariants.{Nothing}
 use Rattle.midi.specs.declared.Scan.{Scan}
-use Rattle.midi.specs.declared.Fed.{Fed}
-use Rattle.midi.specs.declared.Fed.TheVariants.{More, Event}
+use Rattle.std.specs.declared.ops.ControlFlow.TheVariants.{Continue, Break}
 use Rattle.midi.proofs.Feeding.{amid, fed-real}
 use Rattle.midi.proofs.Reading.{stepped-reads}
 use Rattle.midi.proofs.Scanned.{picked, impossible, scanned, Found, found}
@@ -31,7 +29,7 @@ module _ (stream : List ℕ) (c : Cursor) where
   abbrev left : ℕ
   left = length (drop c.place stream)
 
-  abbrev pub read : Outcome
+  abbrev pub read : Stepped
   read = reading c (scan_of c.status Nothing) c.place (drop c.place stream)
 
   found-read : may_run c.status ≡ true
@@ -41,30 +39,30 @@ module _ (stream : List ℕ) (c : Cursor) where
   ends_at : c.place ≤ length stream → c.place + left ≡ length stream
   ends_at h = omega (arith, length-drop c.place stream)
 
-  pub step-cases : (P : Outcome → Type 0) → P (refused bad_cursor c) → (c.place ≤ length stream → may_run c.status ≡ true → P read)
+  pub step-cases : (P : Stepped → Type 0) → P (refused NoSuchPlace c) → (c.place ≤ length stream → may_run c.status ≡ true → P read)
       → P (stepped stream c)
   step-cases P bad good =
       picked P (beyond stream c || not (may_run c.status)) (λ _. bad)
       (λ e. let h = or-false (beyond stream c) _ e in good (ltb-false _ _ h.0) (not-false _ h.1))
 
-  pub forward : is_event (stepped stream c).answer ≡ true → c.place < (stepped stream c).cursor.place
+  pub forward : is_event (stepped stream c).reply ≡ true → c.place < (stepped stream c).state.place
   forward =
-      step-cases (λ (r : Outcome). is_event r.answer ≡ true → c.place < r.cursor.place) (λ e. impossible e)
+      step-cases (λ (r : Stepped). is_event r.reply ≡ true → c.place < r.state.place) (λ e. impossible e)
       (λ h e. (found-read e).forward)
 
-  pub inside : is_event (stepped stream c).answer ≡ true → (stepped stream c).cursor.place ≤ length stream
+  pub inside : is_event (stepped stream c).reply ≡ true → (stepped stream c).state.place ≤ length stream
   inside =
-      step-cases (λ (r : Outcome). is_event r.answer ≡ true → r.cursor.place ≤ length stream) (λ e. impossible e)
+      step-cases (λ (r : Stepped). is_event r.reply ≡ true → r.state.place ≤ length stream) (λ e. impossible e)
       (λ h e t. omega (arith, (found-read e).inside t, ends_at h))
 
-  pub ended : (stepped stream c).answer ≡ End → (stepped stream c).cursor.place ≡ length stream
+  pub ended : (stepped stream c).reply ≡ end → (stepped stream c).state.place ≡ length stream
   ended =
-      step-cases (λ (r : Outcome). r.answer ≡ End → r.cursor.place ≡ length stream)
-      (λ q. let z : ◌≡◌ {A = ℕ} bad_cursor 0 = ap number q in absurd (omega arith))
+      step-cases (λ (r : Stepped). r.reply ≡ end → r.state.place ≡ length stream)
+      (λ q. cc)
       (λ h e q. (found-read e).ended q ∙ ends_at h)
 
-  pub kept : 0 < number (stepped stream c).answer → (stepped stream c).cursor ≡ c
-  kept = step-cases (λ (r : Outcome). 0 < number r.answer → r.cursor ≡ c) (λ _. refl) (λ h e. (found-read e).kept)
+  pub kept : 0 < number (stepped stream c).reply → (stepped stream c).state ≡ c
+  kept = step-cases (λ (r : Stepped). 0 < number r.reply → r.state ≡ c) (λ _. refl) (λ h e. (found-read e).kept)
 
 -- Steps enough, from a good cursor, give the answers to the bytes that are left.
 same_cond : (t : Bool) (a b : List Answer) → (t ≡ true → a ≡ b) → cond t a [] ≡ cond t b []
@@ -78,8 +76,8 @@ answers-scanned (suc n) stream c e h k =
     let r = read stream c in
     let f = found-read stream c e in
     rw (stepped-reads stream c h e)
-    (ap (◌∷◌ r.answer) (same_cond (is_event r.answer) _ _
-    (λ t. answers-scanned n stream r.cursor (f.runs t) (omega (arith, f.inside t, ends_at stream c h)) (omega (arith, f.forward t))))
+    (ap (◌∷◌ r.reply) (same_cond (is_event r.reply) _ _
+    (λ t. answers-scanned n stream r.state (f.runs t) (omega (arith, f.inside t, ends_at stream c h)) (omega (arith, f.forward t))))
     ∙ f.same)
 
 enough : (n : ℕ) (stream : List ℕ) → length stream < n → answers n stream start ≡ scanned (scan_of 0 Nothing) stream
@@ -92,17 +90,17 @@ pub ends : (stream : List ℕ) (n : ℕ) → length stream < n → answers n str
 ends stream n h = enough n stream h ∙ sym (whole stream)
 
 -- A real-time byte leads on to where the reader was.
-same-fed : (f : Fed) {more more' : Scan → List Answer} {stop stop' : Answer → List Answer}
-    → ((next : Scan) → more next ≡ more' next) → ((a : Answer) → stop a ≡ stop' a) → on_fed f more stop ≡ on_fed f more' stop'
-same-fed (More next) p q = p next
-same-fed (Event a) p q = q a
+same-fed : (f : Fed) {more more' : Scan → List Answer} {stop stop' : Event → List Answer}
+    → ((next : Scan) → more next ≡ more' next) → ((a : Event) → stop a ≡ stop' a) → on_fed f more stop ≡ on_fed f more' stop'
+same-fed (Continue next) p q = p next
+same-fed (Break a) p q = q a
 
 scanned-ignored : (before after : List ℕ) (b : ℕ) → real_time b ≡ true → (scan : Scan)
     → scanned scan (before ++ (b ∷ after)) ≡ scanned scan (before ++ after)
 scanned-ignored [] after b e scan = rw (fed-real scan b e)
 scanned-ignored (x ∷ before) after b e scan =
     same-fed (fed scan x) (λ next. scanned-ignored before after b e next)
-    (λ a. ap (◌∷◌ a) (scanned-ignored before after b e (scan_of scan.status Nothing)))
+    (λ a. ap (◌∷◌ (told a)) (scanned-ignored before after b e (scan_of scan.status Nothing)))
 
 pub ignored : (before after : List ℕ) (b : ℕ) → 0xF8 ≤ b → b ≤ 0xFF → answers_of (before ++ (b ∷ after)) ≡ answers_of (before ++ after)
 ignored before after b p q =
