@@ -4,11 +4,12 @@ use mathlib.Core.Path.{◌≡◌, refl, ap, sym, ◌∙◌}
 use mathlib.Core.Bool.{Bool, true, false, not, ◌||◌, cond}
 use mathlib.Core.List.{List, [], ◌∷◌, ◌++◌}
 use native.Mathlib.Omega.{arith}
-use borrow.Author.Tests.{ltb-false, not-false}
+use borrow.Author.Tests.{le-ltb, ltb-false, not-false}
+use Rattle.std.proofs.lemmas.Bool.{cond_both, or_parts}
 use lib.ListN.{length, drop, length-drop}
 use Rattle.midi.specs.Bytes.{real_time, may_run}
 use Rattle.outcome.specs.declared.Refusal.TheVariants.{NoSuchPlace}
-use Rattle.midi.specs.Answers.{Answer, told, ended as end, number, is_event}
+use Rattle.midi.specs.Answers.{Answer, told, ended, number, is_event}
 use Rattle.midi.specs.Steps.{Fed, Stepped, scan_of, fed, on_fed, refused, reading, beyond, stepped}
 use Rattle.midi.specs.Streams.{answers, start, steps_for, answers_of}
 use Rattle.midi.specs.declared.Event.{Event}
@@ -16,13 +17,8 @@ use Rattle.midi.specs.declared.Cursor.{Cursor}
 use Rattle.midi.specs.declared.Part.TheVariants.{Nothing}
 use Rattle.midi.specs.declared.Scan.{Scan}
 use Rattle.std.specs.declared.ops.ControlFlow.TheVariants.{Continue, Break}
-use Rattle.midi.proofs.Feeding.{amid, fed-real}
-use Rattle.midi.proofs.Reading.{stepped-reads}
-use Rattle.midi.proofs.Scanned.{picked, impossible, scanned, Found, found}
-
-or-false : (a b : Bool) → a || b ≡ false → (a ≡ false) × (b ≡ false)
-or-false true b e = impossible (sym e)
-or-false false b e = (refl, e)
+use Rattle.midi.proofs.Feeding.{amid}
+use Rattle.midi.proofs.Scanned.{scanned, Found, found}
 
 -- A step is the refusal of its cursor, or a reading of what is left, from a good cursor.
 module _ (stream : List ℕ) (c : Cursor) where
@@ -42,24 +38,18 @@ module _ (stream : List ℕ) (c : Cursor) where
   pub step-cases : (P : Stepped → Type 0) → P (refused NoSuchPlace c) → (c.place ≤ length stream → may_run c.status ≡ true → P read)
       → P (stepped stream c)
   step-cases P bad good =
-      picked P (beyond stream c || not (may_run c.status)) (λ _. bad)
-      (λ e. let h = or-false (beyond stream c) _ e in good (ltb-false _ _ h.0) (not-false _ h.1))
+      cond_both (beyond stream c || not (may_run c.status)) _ _ P (λ _. bad)
+      (λ e. let h = or_parts (beyond stream c) _ e in good (ltb-false _ _ h.0) (not-false _ h.1))
 
-  pub forward : is_event (stepped stream c).reply ≡ true → c.place < (stepped stream c).state.place
-  forward =
-      step-cases (λ (r : Stepped). is_event r.reply ≡ true → c.place < r.state.place) (λ e. impossible e)
-      (λ h e. (found-read e).forward)
+  pub moves : is_event (stepped stream c).reply ≡ true → (c.place < (stepped stream c).state.place) × ((stepped stream c).state.place ≤ length stream)
+  moves =
+      step-cases (λ (r : Stepped). is_event r.reply ≡ true → (c.place < r.state.place) × (r.state.place ≤ length stream)) (λ e. cc)
+      (λ h e t. let f = (found-read e).goes_on t in (f.0, omega (arith, f.1, ends_at h)))
 
-  pub inside : is_event (stepped stream c).reply ≡ true → (stepped stream c).state.place ≤ length stream
-  inside =
-      step-cases (λ (r : Stepped). is_event r.reply ≡ true → r.state.place ≤ length stream) (λ e. impossible e)
-      (λ h e t. omega (arith, (found-read e).inside t, ends_at h))
-
-  pub ended : (stepped stream c).reply ≡ end → (stepped stream c).state.place ≡ length stream
-  ended =
-      step-cases (λ (r : Stepped). r.reply ≡ end → r.state.place ≡ length stream)
-      (λ q. cc)
-      (λ h e q. (found-read e).ended q ∙ ends_at h)
+  pub at_length : (stepped stream c).reply ≡ ended → (stepped stream c).state.place ≡ length stream
+  at_length =
+      step-cases (λ (r : Stepped). r.reply ≡ ended → r.state.place ≡ length stream) (λ q. cc)
+      (λ h e q. (found-read e).ends q ∙ ends_at h)
 
   pub kept : 0 < number (stepped stream c).reply → (stepped stream c).state ≡ c
   kept = step-cases (λ (r : Stepped). 0 < number r.reply → r.state ≡ c) (λ _. refl) (λ h e. (found-read e).kept)
@@ -75,9 +65,9 @@ answers-scanned zero stream c e h k = absurd (omega arith)
 answers-scanned (suc n) stream c e h k =
     let r = read stream c in
     let f = found-read stream c e in
-    rw (stepped-reads stream c h e)
+    rw (le-ltb _ _ h, e)
     (ap (◌∷◌ r.reply) (same_cond (is_event r.reply) _ _
-    (λ t. answers-scanned n stream r.state (f.runs t) (omega (arith, f.inside t, ends_at stream c h)) (omega (arith, f.forward t))))
+    (λ t. let g = f.goes_on t in answers-scanned n stream r.state g.2 (omega (arith, g.1, ends_at stream c h)) (omega (arith, g.0))))
     ∙ f.same)
 
 enough : (n : ℕ) (stream : List ℕ) → length stream < n → answers n stream start ≡ scanned (scan_of 0 Nothing) stream
@@ -97,7 +87,7 @@ same-fed (Break a) p q = q a
 
 scanned-ignored : (before after : List ℕ) (b : ℕ) → real_time b ≡ true → (scan : Scan)
     → scanned scan (before ++ (b ∷ after)) ≡ scanned scan (before ++ after)
-scanned-ignored [] after b e scan = rw (fed-real scan b e)
+scanned-ignored [] after b e scan = rw e
 scanned-ignored (x ∷ before) after b e scan =
     same-fed (fed scan x) (λ next. scanned-ignored before after b e next)
     (λ a. ap (◌∷◌ (told a)) (scanned-ignored before after b e (scan_of scan.status Nothing)))
