@@ -55,9 +55,9 @@ module _ (stream : List ℕ) (c : Cursor) where
   kept = step-cases (λ (r : Stepped). 0 < number r.reply → r.state ≡ c) (λ _. refl) (λ h e. (found-read e).kept)
 
 -- Steps enough, from a good cursor, give the answers to the bytes that are left.
-same_cond : (t : Bool) (a b : List Answer) → (t ≡ true → a ≡ b) → cond t a [] ≡ cond t b []
-same_cond true a b f = f refl
-same_cond false a b f = refl
+pub same_cond : {A : Type 0} (t : Bool) (a b r : A) → (t ≡ true → a ≡ b) → cond t a r ≡ cond t b r
+same_cond true a b r f = f refl
+same_cond false a b r f = refl
 
 answers-scanned : (n : ℕ) (stream : List ℕ) (c : Cursor) → may_run c.status ≡ true → c.place ≤ length stream → length stream < n + c.place
     → answers n stream c ≡ scanned (scan_of c.status Nothing) (drop c.place stream)
@@ -66,7 +66,7 @@ answers-scanned (suc n) stream c e h k =
     let r = read stream c in
     let f = found-read stream c e in
     rw (le-ltb _ _ h, e)
-    (ap (◌∷◌ r.reply) (same_cond (is_event r.reply) _ _
+    (ap (◌∷◌ r.reply) (same_cond (is_event r.reply) _ _ []
     (λ t. let g = f.goes_on t in answers-scanned n stream r.state g.2 (omega (arith, g.1, ends_at stream c h)) (omega (arith, g.0))))
     ∙ f.same)
 
