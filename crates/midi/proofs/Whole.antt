@@ -1,6 +1,6 @@
 -- What holds of every step, and of the steps over a whole stream.
-use Prim.Native.Nat.{ℕ, zero, suc, ◌+◌, ◌<◌, ◌≤◌}
-use mathlib.Core.Path.{◌≡◌, refl, ap, sym, ◌∙◌}
+use Prim.Native.Nat.{ℕ, zero, suc, ◌+◌, ◌-◌, ◌<◌, ◌≤◌}
+use mathlib.Core.Path.{◌≡◌, refl, ap, sym, subst, ◌∙◌}
 use mathlib.Core.Bool.{Bool, true, false, not, ◌||◌, cond}
 use mathlib.Core.List.{List, [], ◌∷◌, ◌++◌}
 use native.Mathlib.Omega.{arith}
@@ -95,3 +95,21 @@ scanned-ignored (x ∷ before) after b e scan =
 pub ignored : (before after : List ℕ) (b : ℕ) → 0xF8 ≤ b → b ≤ 0xFF → answers_of (before ++ (b ∷ after)) ≡ answers_of (before ++ after)
 ignored before after b p q =
     whole (before ++ (b ∷ after)) ∙ scanned-ignored before after b (amid 0xF8 0xFF b p q) (scan_of 0 Nothing) ∙ sym (whole (before ++ after))
+
+-- A loop over the steps: what is left to read behind an outcome, nothing once it is no event, gets less.
+abbrev pub left_over : List ℕ → Stepped → ℕ
+left_over stream o = cond (is_event o.reply) (suc (length stream) - o.state.place) 0
+
+abbrev pub Inside : List ℕ → Stepped → Type 0
+Inside stream o = is_event o.reply ≡ true → o.state.place ≤ length stream
+
+pub inside : (stream : List ℕ) (c : Cursor) (o : Stepped) → o ≡ stepped stream c → Inside stream o
+inside stream c o s = subst (Inside stream) (sym s) (λ e. (moves stream c e).1)
+
+pub shrinks : (stream : List ℕ) (p : Stepped) (v : Event) → p.reply ≡ told v → Inside stream p
+    → (o : Stepped) → o ≡ stepped stream p.state → left_over stream o < left_over stream p
+shrinks stream p v q h o s =
+    let low = h (rw q) in
+    rw q (subst (λ r. left_over stream r < suc (length stream) - p.state.place) (sym s)
+    (cond_both (is_event (stepped stream p.state).reply) _ _ (λ n. n < suc (length stream) - p.state.place)
+    (λ t. let m = moves stream p.state t in omega (arith, low, m.0, m.1)) (λ _. omega (arith, low))))

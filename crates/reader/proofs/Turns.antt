@@ -1,5 +1,5 @@
 -- The turns of a tally: what a step that gives an event leaves to be counted, and what the last step says.
-use Prim.Native.Nat.{ℕ, zero, suc, ◌+◌, ◌-◌, ◌<◌, ◌≤◌}
+use Prim.Native.Nat.{ℕ, zero, suc, ◌+◌, ◌<◌, ◌≤◌}
 use mathlib.Core.Path.{◌≡◌, ap, sym, subst, ◌∙◌}
 use mathlib.Core.Bool.{Bool, true, false, cond}
 use mathlib.Core.List.{List, [], ◌∷◌}
@@ -11,8 +11,7 @@ use Rattle.midi.specs.Steps.{Stepped, stepped}
 use Rattle.midi.specs.Streams.{answers, steps_for}
 use Rattle.midi.specs.declared.Event.{Event}
 use Rattle.midi.specs.declared.Cursor.{Cursor}
-use Rattle.std.proofs.lemmas.Bool.{cond_both}
-use Rattle.midi.proofs.Whole.{moves, same_cond}
+use Rattle.midi.proofs.Whole.{moves, same_cond, left_over, inside, shrinks}
 use Rattle.reader.specs.Tallies.{kind, how_many, counts_of, plus, Within, last_step}
 use Rattle.reader.specs.declared.Counts.{Counts}
 
@@ -95,14 +94,7 @@ pub record Turned (stream : List ℕ) (begin : Cursor) (x : Counts) (o : Stepped
   pub is : o ≡ stepped stream from
   pub turn : Turn stream begin x from
 
--- what is left to read: nothing once an outcome is no event
-abbrev pub left_over : List ℕ → Stepped → ℕ
-left_over stream o = cond (is_event o.reply) (suc (length stream) - o.state.place) 0
-
 module _ (stream : List ℕ) (begin : Cursor) (x : Counts) (o : Stepped) (t : Turned stream begin x o) where
-  inside : is_event o.reply ≡ true → o.state.place ≤ length stream
-  inside = subst (λ (r : Stepped). is_event r.reply ≡ true → r.state.place ≤ length stream) (sym t.is) (λ e. (moves stream t.from e).1)
-
   -- the step behind an event v
   module _ (v : Event) (q : o.reply ≡ told v) (p : Stepped) (s : p ≡ stepped stream o.state) where
     pub goes_on : (y : Counts) → y ≡ plus x (counts_of (told v ∷ [])) → Turned stream begin y p
@@ -112,8 +104,5 @@ module _ (stream : List ℕ) (begin : Cursor) (x : Counts) (o : Stepped) (t : Tu
         let turn : P (stepped stream t.from) = λ h. subst (λ z. Turn stream begin z (stepped stream t.from).state) (rw (e, h)) (next (rw h)) in
         record { from = o.state; is = s; turn = subst P (sym t.is) turn q }
 
-    pub shrinks : left_over stream p < left_over stream o
-    shrinks =
-        let h = inside (rw q) in
-        rw q (subst (λ r. left_over stream r < suc (length stream) - o.state.place) (sym s) (cond_both (is_event (stepped stream o.state).reply) _ _ (λ n. n < suc (length stream) - o.state.place)
-        (λ e. let m = moves stream o.state e in omega (arith, h, m.0, m.1)) (λ _. omega (arith, h))))
+    pub gets_less : left_over stream p < left_over stream o
+    gets_less = shrinks stream o v q (inside stream t.from o t.is) p s

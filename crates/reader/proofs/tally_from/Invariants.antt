@@ -1,4 +1,5 @@
-use Rattle.reader.proofs.Turns.{Turned, left_over}
+use Rattle.midi.proofs.Whole.{left_over}
+use Rattle.reader.proofs.Turns.{Turned}
 use Rattle.reader.proofs.tally_from.Given as goal
 
 abbrev pub invariant-loop-last : goal.invariant-loop-last
