@@ -4,45 +4,32 @@ use mathlib.Core.Path.{◌≡◌, refl, ap, ◌∙◌}
 use mathlib.Core.Bool.{true, false}
 use mathlib.Core.List.{List, [], ◌∷◌, ◌++◌, map, Mem, mem-cons_self, mem-cons_of_mem}
 use native.Mathlib.Omega.{arith}
-use borrow.Author.Tests.{ne_eqb}
 use Rattle.midi.specs.Bytes.{takes_one}
 use Rattle.midi.specs.Messages.{Message, note_off, note_on, key_pressure, control, program, channel_pressure, pitch_bend, event, message, encoded, Sendable}
-use Rattle.midi.specs.Steps.{scan_of, data_byte, fed}
+use Rattle.midi.specs.Steps.{scan_of}
 use Rattle.midi.specs.Streams.{answers_of, encoded_all}
-use Rattle.midi.specs.declared.Answer.TheVariants.{End}
-use Rattle.midi.specs.declared.Part.{Part}
+use Rattle.midi.specs.Answers.{told, ended}
 use Rattle.midi.specs.declared.Part.TheVariants.{Nothing, Status, First}
 use Rattle.midi.specs.declared.Scan.{Scan}
-use Rattle.midi.specs.declared.Fed.TheVariants.{More}
-use Rattle.midi.proofs.Feeding.{amid, under, over, first-last, first-kept, fed-status, fed-data}
+use Rattle.midi.proofs.Feeding.{amid, under, over, fed-status, fed-data}
 use Rattle.midi.proofs.Scanned.{scanned}
 use Rattle.midi.proofs.Whole.{whole}
 
-status-fed : (scan : Scan) (q : ℕ) → 0x80 ≤ q → q ≤ 0xEF → fed scan q ≡ More (scan_of q Status)
-status-fed scan q p h =
-    fed-status scan q (under 0xF8 0xFF q (omega arith)) (under 0xF0 0xF7 q (omega arith)) p (omega arith)
-
-data-fed : (q : ℕ) (part : Part) (b : ℕ) → 0x80 ≤ q → b < 0x80 → fed (scan_of q part) b ≡ data_byte q part b
-data-fed q part b p h =
-    fed-data (scan_of q part) b h
-    (ne_eqb q 0 (λ e. omega arith))
-
 module _ (scan : Scan) (q : ℕ) (p : 0x80 ≤ q) (h : q ≤ 0xEF) (rest : List ℕ) where
-  one : (a : ℕ) → takes_one q ≡ true → a < 0x80 → scanned scan (q ∷ a ∷ rest) ≡ event (message q a 0) ∷ scanned (scan_of q Nothing) rest
-  one a t ha = rw (status-fed scan q p h, data-fed q Status a p ha, first-last q a t)
+  one : (a : ℕ) → takes_one q ≡ true → a < 0x80 → scanned scan (q ∷ a ∷ rest) ≡ told (event (message q a 0)) ∷ scanned (scan_of q Nothing) rest
+  one a t ha = rw (fed-status scan q p h, fed-data q Status a p ha, t)
 
   two : (a b : ℕ) → takes_one q ≡ false → a < 0x80 → b < 0x80
-      → scanned scan (q ∷ a ∷ b ∷ rest) ≡ event (message q a b) ∷ scanned (scan_of q Nothing) rest
-  two a b t ha hb = rw (status-fed scan q p h, data-fed q Status a p ha, first-kept q a t, data-fed q (First a) b p hb)
+      → scanned scan (q ∷ a ∷ b ∷ rest) ≡ told (event (message q a b)) ∷ scanned (scan_of q Nothing) rest
+  two a b t ha hb = rw (fed-status scan q p h, fed-data q Status a p ha, t, fed-data q (First a) b p hb)
 
--- the kind and the takes of a status 16 * k + channel
-module _ (channel : ℕ) (h : channel < 16) where
-  kind-is : (k : ℕ) → (16 * k + channel) / 16 ≡ k
-  kind-is k = omega arith
+-- the kind of a status 16 * k + channel
+kind-is : (channel : ℕ) → channel < 16 → (k : ℕ) → (16 * k + channel) / 16 ≡ k
+kind-is channel h k = omega arith
 
 -- A message's bytes give its event, and leave its status running.
 module _ (scan : Scan) (rest : List ℕ) where
-  gives : (m : Message) → Sendable m → (q : ℕ) × (scanned scan (encoded m ++ rest) ≡ event m ∷ scanned (scan_of q Nothing) rest)
+  gives : (m : Message) → Sendable m → (q : ℕ) × (scanned scan (encoded m ++ rest) ≡ told (event m) ∷ scanned (scan_of q Nothing) rest)
   gives (note_off c n v) s =
       let q = 0x80 + c in
       (q, two scan q (omega arith) (omega arith) rest n v (under 0xC0 0xDF q (omega arith)) s.1 s.2 ∙ rw (kind-is c s.0 0x8))
@@ -70,11 +57,11 @@ module _ (scan : Scan) (rest : List ℕ) where
       )
 
 scanned-back : (ms : List Message) (status : ℕ) → ((m : Message) → Mem m ms → Sendable m)
-    → scanned (scan_of status Nothing) (encoded_all ms) ≡ map event ms ++ (End ∷ [])
+    → scanned (scan_of status Nothing) (encoded_all ms) ≡ map (λ m. told (event m)) ms ++ (ended ∷ [])
 scanned-back [] status s = refl
 scanned-back (m ∷ ms) status s =
     let g = gives (scan_of status Nothing) (encoded_all ms) m (s m mem-cons_self) in
-    g.1 ∙ ap (◌∷◌ (event m)) (scanned-back ms g.0 (λ n i. s n (mem-cons_of_mem m i)))
+    g.1 ∙ ap (◌∷◌ (told (event m))) (scanned-back ms g.0 (λ n i. s n (mem-cons_of_mem m i)))
 
-pub read_back : (ms : List Message) → ((m : Message) → Mem m ms → Sendable m) → answers_of (encoded_all ms) ≡ map event ms ++ (End ∷ [])
+pub read_back : (ms : List Message) → ((m : Message) → Mem m ms → Sendable m) → answers_of (encoded_all ms) ≡ map (λ m. told (event m)) ms ++ (ended ∷ [])
 read_back ms s = whole (encoded_all ms) ∙ scanned-back ms 0 s

@@ -1,5 +1,4 @@
 pub mod Feeding
-pub mod Reading
 pub mod Scanned
 pub mod Whole
 pub mod Encoded

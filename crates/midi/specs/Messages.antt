@@ -3,8 +3,8 @@ use Rattle.std.specs.Prelude.{cond, ℕ, ◌+◌, ◌*◌, ◌/◌, ◌%◌, ◌
 use Rattle.std.specs.Float.{binary32}
 use Rattle.std.specs.Float.Ieee.{of_int, of_bits, div}
 use Rattle.midi.specs.Bytes.{within}
-use Rattle.midi.specs.declared.Answer.{Answer}
-use Rattle.midi.specs.declared.Answer.TheVariants.{On, Off, Pedal, AllOff, Bend, Other}
+use Rattle.midi.specs.declared.Event.{Event}
+use Rattle.midi.specs.declared.Event.TheVariants.{On, Off, Pedal, AllOff, Bend, Other}
 
 pub data Message : Type 0 where
   note_off : (channel note velocity : ℕ) → Message
@@ -20,17 +20,17 @@ abbrev pub velocity_of : ℕ → Float
 velocity_of velocity = div binary32 (of_int binary32 (pos velocity)) (of_bits binary32 0x42FE_0000)
 
 -- 01, off: a note on whose velocity is 0 is one too
-abbrev pub note_on_event : ℕ → ℕ → Answer
+abbrev pub note_on_event : ℕ → ℕ → Event
 note_on_event note velocity = cond (eqb velocity 0) (Off note) (On note (velocity_of velocity))
 
 -- 01, pedal and all-off: controller 64 is down where its value is 64 or more, and 123 to 127 are the mode messages that
 -- silence. Other controllers, 120 to 122 among them, are other.
-abbrev pub control_event : ℕ → ℕ → Answer
+abbrev pub control_event : ℕ → ℕ → Event
 control_event controller value =
     cond (eqb controller 64) (Pedal (leb 64 value)) (cond (within 123 127 controller) AllOff Other)
 
 -- 01, events, one for each kind of message. No event looks at the channel, so every channel plays the instrument.
-abbrev pub event : Message → Answer
+abbrev pub event : Message → Event
 event (note_off channel note velocity) = Off note
 event (note_on channel note velocity) = note_on_event note velocity
 event (key_pressure channel note pressure) = Other

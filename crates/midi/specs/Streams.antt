@@ -1,11 +1,9 @@
 -- Whole streams, and the theorems about them.
 use Rattle.std.specs.Prelude.{ℕ, zero, suc, ◌<◌, ◌≤◌, ◌≡◌, true, cond, length}
 use mathlib.Core.List.{List, [], ◌∷◌, ◌++◌, map, Mem}
-use Rattle.midi.specs.Answers.{number, values, limits, is_event}
+use Rattle.midi.specs.Answers.{Answer, told, ended, number, values, limits, is_event}
 use Rattle.midi.specs.Messages.{Message, event, encoded, Sendable}
 use Rattle.midi.specs.Steps.{cursor_at, stepped}
-use Rattle.midi.specs.declared.Answer.{Answer}
-use Rattle.midi.specs.declared.Answer.TheVariants.{End}
 use Rattle.midi.specs.declared.Cursor.{Cursor}
 
 -- The answers of steps from a cursor on, each from the cursor that the one before gave, up to the first that is no
@@ -13,8 +11,8 @@ use Rattle.midi.specs.declared.Cursor.{Cursor}
 abbrev pub answers : ℕ → List ℕ → Cursor → List Answer
 answers zero stream c = []
 answers (suc n) stream c =
-    (stepped stream c).answer
-    ∷ cond (is_event (stepped stream c).answer) (answers n stream (stepped stream c).cursor) []
+    (stepped stream c).reply
+    ∷ cond (is_event (stepped stream c).reply) (answers n stream (stepped stream c).state) []
 
 abbrev pub start : Cursor
 start = cursor_at 0 0
@@ -23,16 +21,16 @@ start = cursor_at 0 0
 abbrev pub steps_for : List ℕ → ℕ
 steps_for stream = suc (length stream)
 
--- The answers to a whole stream: its events, and End or the refusal last.
+-- The answers to a whole stream: its events, and the end or the refusal last.
 abbrev pub answers_of : List ℕ → List Answer
 answers_of stream = answers (steps_for stream) stream start
 
 -- An event moves the place forward, and not beyond the stream. So reading ends: more steps would find nothing more.
 pub record Progress : Type 0 where
-  pub forward : (stream : List ℕ) (c : Cursor) → is_event (stepped stream c).answer ≡ true
-      → c.place < (stepped stream c).cursor.place
-  pub inside : (stream : List ℕ) (c : Cursor) → is_event (stepped stream c).answer ≡ true
-      → (stepped stream c).cursor.place ≤ length stream
+  pub forward : (stream : List ℕ) (c : Cursor) → is_event (stepped stream c).reply ≡ true
+      → c.place < (stepped stream c).state.place
+  pub inside : (stream : List ℕ) (c : Cursor) → is_event (stepped stream c).reply ≡ true
+      → (stepped stream c).state.place ≤ length stream
   pub ends : (stream : List ℕ) (n : ℕ) → length stream < n → answers n stream start ≡ answers_of stream
 
 -- A byte from F8 to FF, put in anywhere, changes no answer.
@@ -45,19 +43,19 @@ abbrev pub encoded_all : List Message → List ℕ
 encoded_all [] = []
 encoded_all (m ∷ rest) = encoded m ++ encoded_all rest
 
--- Messages that all carry their status are read back: their events, in order, and End.
+-- Messages that all carry their status are read back: their events, in order, and the end.
 abbrev pub RoundTrip : Type 0
 RoundTrip =
     (messages : List Message) → ((m : Message) → Mem m messages → Sendable m)
-    → answers_of (encoded_all messages) ≡ map event messages ++ (End ∷ [])
+    → answers_of (encoded_all messages) ≡ map (λ m. told (event m)) messages ++ (ended ∷ [])
 
--- End is given at the stream's length only.
+-- The end is given at the stream's length only.
 abbrev pub EndLast : Type 0
-EndLast = (stream : List ℕ) (c : Cursor) → (stepped stream c).answer ≡ End → (stepped stream c).cursor.place ≡ length stream
+EndLast = (stream : List ℕ) (c : Cursor) → (stepped stream c).reply ≡ ended → (stepped stream c).state.place ≡ length stream
 
 -- A refusal gives the cursor back.
 abbrev pub RefusalKeeps : Type 0
-RefusalKeeps = (stream : List ℕ) (c : Cursor) → 0 < number (stepped stream c).answer → (stepped stream c).cursor ≡ c
+RefusalKeeps = (stream : List ℕ) (c : Cursor) → 0 < number (stepped stream c).reply → (stepped stream c).state ≡ c
 
 -- the two lists are equally long, and each number of the first is at most its partner
 abbrev pub AtMost : List ℕ → List ℕ → Type 0
@@ -70,4 +68,4 @@ AtMost (x ∷ xs) (y ∷ ys) = (x ≤ y) × AtMost xs ys
 abbrev pub Limits : Type 0
 Limits =
     (stream : List ℕ) → ((b : ℕ) → Mem b stream → b < 256) → (c : Cursor)
-    → AtMost (values (stepped stream c).answer) (limits (stepped stream c).answer)
+    → AtMost (values (stepped stream c).reply) (limits (stepped stream c).reply)

@@ -3,20 +3,24 @@
 #![tactic(auto)]
 
 ghost use Rattle.std.specs.Prelude.{◌≡◌};
-ghost use Rattle.midi.specs.Bytes.{within, may_run};
+ghost use Rattle.midi.specs.Bytes.{may_run};
 ghost use Rattle.midi.specs.Messages.{note_on_event, control_event, event, message};
-ghost use Rattle.midi.specs.Steps.{first_data, data_byte, fed, refused, at_end, stepped};
+ghost use Rattle.midi.specs.Steps.{first_data, data_byte, fed, at_end, stepped};
 ghost use Rattle.midi.specs.Streams.{Progress, RealTimeIgnored, RoundTrip, EndLast, RefusalKeeps, Limits};
 
-// A place in a stream, and the running status there, 0 for none.
-#[derive(Clone, Copy)]
+use outcome::{Outcome, Refusal};
+use std::ops::ControlFlow;
+
+// A place in a stream, and the running status there. 0 stands for none, as in the C interface and where a cursor is
+// printed.
+#[derive(Clone, Copy, Debug, Default, PartialEq, Eq)]
 pub struct Cursor {
     pub place: usize,
     pub status: u8,
 }
 
-#[derive(Clone, Copy)]
-pub enum Answer {
+#[derive(Clone, Copy, Debug, PartialEq)]
+pub enum Event {
     // A note and its velocity, above 0 and at most 1.
     On(u8, f32),
     Off(u8),
@@ -26,15 +30,6 @@ pub enum Answer {
     // 0 to 16,383, with 8,192 for the centre.
     Bend(u16),
     Other,
-    End,
-    // The number of the refusal.
-    Refused(u8),
-}
-
-#[derive(Clone, Copy)]
-pub struct Outcome {
-    pub answer: Answer,
-    pub cursor: Cursor,
 }
 
 // How much of a message was read. Under running status a message has no status byte of its own.
@@ -52,173 +47,131 @@ struct Scan {
     pub part: Part,
 }
 
-#[derive(Clone, Copy)]
-enum Fed {
-    More(Scan),
-    Event(Answer),
-}
-
-// Whether `byte` is one of `low` to `high`.
-fn within(low: u8, high: u8, byte: u8) -> bool
-    ensures { result ≡ within low high byte }
-{
-    if low <= byte { byte <= high } else { false }
-}
-
 // Whether a cursor may hold `status`.
 fn may_run(status: u8) -> bool
     ensures { result ≡ may_run status }
 {
-    if status == 0 {
-        true
-    } else {
-        within(0x80, 0xEF, status)
-    }
+    matches!(status, 0 | 0x80..=0xEF)
 }
 
 // An on at velocity 0 is an off.
-fn note_on_event(note: u8, velocity: u8) -> Answer
+fn note_on_event(note: u8, velocity: u8) -> Event
     ensures { result ≡ note_on_event note velocity }
 {
     if velocity == 0 {
-        Answer::Off(note)
+        Event::Off(note)
     } else {
-        Answer::On(note, velocity as f32 / 127.0)
+        Event::On(note, velocity as f32 / 127.0)
     }
 }
 
-fn control_event(controller: u8, value: u8) -> Answer
+fn control_event(controller: u8, value: u8) -> Event
     ensures { result ≡ control_event controller value }
 {
-    if controller == 64 {
-        Answer::Pedal(64 <= value)
-    } else if within(123, 127, controller) {
-        Answer::AllOff
-    } else {
-        Answer::Other
+    match controller {
+        64 => Event::Pedal(64 <= value),
+        123..=127 => Event::AllOff,
+        _ => Event::Other,
     }
 }
 
 // The event of a whole message. One of a single data byte has any `second`. The last kind is E.
-fn event(status: u8, first: u8, second: u8) -> Answer
+fn message_event(status: u8, first: u8, second: u8) -> Event
     ensures { result ≡ event (message status first second) }
 {
     match status / 16 {
-        0x8 => Answer::Off(first),
+        0x8 => Event::Off(first),
         0x9 => note_on_event(first, second),
-        0xA => Answer::Other,
         0xB => control_event(first, second),
-        0xC => Answer::Other,
-        0xD => Answer::Other,
-        _ => Answer::Bend(first as u16 + 128 * (second as u16)),
+        0xA | 0xC | 0xD => Event::Other,
+        _ => Event::Bend(first as u16 + 128 * (second as u16)),
     }
 }
 
 // The first data byte of a message, which is the last of a C or a D.
-fn feed_first(status: u8, byte: u8) -> Fed
+fn feed_first(status: u8, byte: u8) -> ControlFlow<Event, Scan>
     ensures { result ≡ first_data status byte }
 {
-    if within(0xC0, 0xDF, status) {
-        Fed::Event(event(status, byte, 0))
-    } else {
-        Fed::More(Scan {
+    match status {
+        0xC0..=0xDF => ControlFlow::Break(message_event(status, byte, 0)),
+        _ => ControlFlow::Continue(Scan {
             status,
             part: Part::First(byte),
-        })
+        }),
     }
 }
 
 // A data byte under running status.
-fn feed_data(status: u8, part: Part, byte: u8) -> Fed
+fn feed_data(status: u8, part: Part, byte: u8) -> ControlFlow<Event, Scan>
     ensures { result ≡ data_byte status part byte }
 {
     match part {
-        Part::Nothing => feed_first(status, byte),
-        Part::Status => feed_first(status, byte),
-        Part::First(first) => Fed::Event(event(status, first, byte)),
+        Part::Nothing | Part::Status => feed_first(status, byte),
+        Part::First(first) => ControlFlow::Break(message_event(status, first, byte)),
     }
 }
 
-// Any byte: data, as most are, real-time, system common or status.
-fn feed(scan: Scan, byte: u8) -> Fed
+// Any byte: data, as most are, status, system common or real-time. A message that it ends breaks off with its event.
+fn feed(scan: Scan, byte: u8) -> ControlFlow<Event, Scan>
     ensures { result ≡ fed scan byte }
 {
-    let status = scan.status;
-    let part = scan.part;
-    if byte < 0x80 {
-        if status == 0 {
-            return Fed::More(scan);
-        }
-        return feed_data(status, part, byte);
-    }
-    if within(0xF8, 0xFF, byte) {
-        return Fed::More(scan);
-    }
-    if within(0xF0, 0xF7, byte) {
-        return Fed::More(Scan {
+    match byte {
+        0..=0x7F => if scan.status == 0 {
+            ControlFlow::Continue(scan)
+        } else {
+            feed_data(scan.status, scan.part, byte)
+        },
+        0x80..=0xEF => ControlFlow::Continue(Scan {
+            status: byte,
+            part: Part::Status,
+        }),
+        0xF0..=0xF7 => ControlFlow::Continue(Scan {
             status: 0,
             part: Part::Nothing,
-        });
-    }
-    Fed::More(Scan {
-        status: byte,
-        part: Part::Status,
-    })
-}
-
-fn refuse(number: u8, cursor: Cursor) -> Outcome
-    ensures { result ≡ refused number cursor }
-{
-    Outcome {
-        answer: Answer::Refused(number),
-        cursor,
+        }),
+        0xF8..=0xFF => ControlFlow::Continue(scan),
     }
 }
 
 // The stream's end: inside a message it is a refusal, which gives `from` back.
-fn finish(from: Cursor, scan: Scan, place: usize) -> Outcome
+fn finish(from: Cursor, scan: Scan, place: usize) -> Outcome<Cursor, Option<Event>>
     ensures { result ≡ at_end from scan.part place scan.status }
 {
-    let status = scan.status;
-    let part = scan.part;
-    match part {
-        Part::Nothing => Outcome {
-            answer: Answer::End,
-            cursor: Cursor { place, status },
-        },
-        Part::Status => refuse(10, from),
-        Part::First(_) => refuse(10, from),
+    match scan.part {
+        Part::Nothing => {
+            let status = scan.status;
+            Outcome::answered(Cursor { place, status }, None)
+        }
+        Part::Status | Part::First(_) => Outcome::refused(from, Refusal::CutShort),
     }
 }
 
-// The next event from `cursor` on, the stream's end, or a refusal.
-pub fn step(stream: &[u8], cursor: Cursor) -> Outcome
+// The next event from `cursor` on, none at the stream's end, or a refusal.
+pub fn step(stream: &[u8], cursor: Cursor) -> Outcome<Cursor, Option<Event>>
     ensures { result ≡ stepped stream.now cursor }
 {
-    let mut place = cursor.place;
     let status = cursor.status;
-    if stream.len() < place || !may_run(status) {
-        return refuse(9, cursor);
+    if stream.len() < cursor.place || !may_run(status) {
+        return Outcome::refused(cursor, Refusal::NoSuchPlace);
     }
     let mut scan = Scan {
         status,
         part: Part::Nothing,
     };
-    while place < stream.len() {
-        let fed = feed(scan, stream[place]);
-        place += 1;
-        match fed {
-            Fed::More(next) => scan = next,
-            Fed::Event(answer) => {
-                let status = scan.status;
-                return Outcome {
-                    answer,
-                    cursor: Cursor { place, status },
+    let left = &stream[cursor.place..];
+    for (passed, byte) in left.iter().enumerate() {
+        match feed(scan, *byte) {
+            ControlFlow::Continue(next) => scan = next,
+            ControlFlow::Break(event) => {
+                let behind = Cursor {
+                    place: cursor.place + passed + 1,
+                    status: scan.status,
                 };
+                return Outcome::answered(behind, Some(event));
             }
         }
     }
-    finish(cursor, scan, place)
+    finish(cursor, scan, stream.len())
 }
 
 // The theorems on whole streams, each proved in its own proof file.

@@ -9,36 +9,21 @@ use std::io::Read;
 mod parse;
 mod show;
 
-// Each event takes a byte of at most 100, so the count is never used up.
 fn steps(rt: &impl Print, stream: &[u8], from: Cursor) -> io::Result<()> {
-    let mut cursor = from;
-    let mut turns: usize = 101;
-    while turns > 0 {
-        let outcome = midi::step(stream, cursor);
-        let answer = outcome.answer;
-        cursor = outcome.cursor;
-        if show::answer(rt, answer, cursor)? {
-            return Ok(());
-        }
-        turns -= 1;
+    let mut last = midi::step(stream, from);
+    while let Ok(Some(event)) = last.reply {
+        show::show_event(rt, event)?;
+        last = midi::step(stream, last.state);
     }
-    Ok(())
+    show::show_end(rt, last)
 }
 
-// `stream` has room for the bytes of the line.
-fn answer_line(rt: &impl Print, line: &[u8], stream: &mut [u8]) -> io::Result<()> {
-    let request = parse::parse_line(line, stream);
-    match request {
-        parse::Request::Unread => {
-            rt.write_all(b"(unread)\n")?;
-        }
-        parse::Request::Read(cursor, count) => {
-            if count <= stream.len() {
-                steps(rt, &stream[..count], cursor)?;
-            }
-        }
+// `room` is for the bytes of the line.
+fn answer_line(rt: &impl Print, line: &[u8], room: &mut [u8]) -> io::Result<()> {
+    match parse::parse_line(line, room) {
+        Some((cursor, stream)) => steps(rt, stream, cursor),
+        None => println!(rt; "(unread)"),
     }
-    Ok(())
 }
 
 // A length of 257 stands for every line that is too long.

@@ -1,25 +1,27 @@
 -- A whole stream in one answer: how many events of each kind it has, and how its reading ended.
-use Rattle.std.specs.Prelude.{ℕ, zero, suc, ◌+◌, ◌≤◌, ◌≡◌, false, cond, List, [], ◌∷◌, eqb, length}
-use Rattle.midi.specs.Answers.{is_event}
-use Rattle.midi.specs.Steps.{stepped}
+use Rattle.std.specs.Prelude.{ℕ, zero, suc, ◌+◌, ◌≤◌, ◌≡◌, false, cond, List, [], ◌∷◌, eqb, length, Some, None, Ok, Err}
+use Rattle.midi.specs.Answers.{Answer, is_event}
+use Rattle.midi.specs.Steps.{Stepped, stepped}
 use Rattle.midi.specs.Streams.{answers, steps_for}
-use Rattle.midi.specs.declared.Answer.{Answer}
-use Rattle.midi.specs.declared.Answer.TheVariants.{On, Off, Pedal, AllOff, Bend, Other, End, Refused}
+use Rattle.midi.specs.declared.Event.{Event}
+use Rattle.midi.specs.declared.Event.TheVariants.{On, Off, Pedal, AllOff, Bend, Other}
 use Rattle.midi.specs.declared.Cursor.{Cursor}
-use Rattle.midi.specs.declared.Outcome.{Outcome}
 use Rattle.reader.specs.declared.Counts.{Counts}
 use Rattle.reader.specs.declared.Tally.{Tally}
 
 -- a number for each answer: the six events in 01's order, then the two that end a reading
+abbrev pub event_kind : Event → ℕ
+event_kind (On note velocity) = 0
+event_kind (Off note) = 1
+event_kind (Pedal down) = 2
+event_kind AllOff = 3
+event_kind (Bend value) = 4
+event_kind Other = 5
+
 abbrev pub kind : Answer → ℕ
-kind (On note velocity) = 0
-kind (Off note) = 1
-kind (Pedal down) = 2
-kind AllOff = 3
-kind (Bend value) = 4
-kind Other = 5
-kind End = 6
-kind (Refused n) = 7
+kind (Ok (Some e)) = event_kind e
+kind (Ok None) = 6
+kind (Err r) = 7
 
 abbrev pub one : ℕ → Answer → ℕ
 one k a = cond (eqb (kind a) k) 1 0
@@ -54,11 +56,11 @@ abbrev pub Within : ℕ → Counts → Type 0
 Within n x = (x.ons ≤ n) × (x.offs ≤ n) × (x.pedals ≤ n) × (x.all_offs ≤ n) × (x.bends ≤ n) × (x.others ≤ n)
 
 -- The outcome that ends a reading: the steps go on over events, each from the cursor that the one before gave, and stop at
--- what is none, which by 01 is End or a refusal. The first number bounds the steps, as in `answers`.
-abbrev pub last_step : ℕ → List ℕ → Cursor → Outcome
+-- what is none, which by 01 is the end or a refusal. The first number bounds the steps, as in `answers`.
+abbrev pub last_step : ℕ → List ℕ → Cursor → Stepped
 last_step zero stream c = stepped stream c
 last_step (suc n) stream c =
-    cond (is_event (stepped stream c).answer) (last_step n stream (stepped stream c).cursor) (stepped stream c)
+    cond (is_event (stepped stream c).reply) (last_step n stream (stepped stream c).state) (stepped stream c)
 
 -- the tally of a stream from a cursor on
 abbrev pub tallied : List ℕ → Cursor → Tally
@@ -73,6 +75,6 @@ total x = x.ons + x.offs + x.pedals + x.all_offs + x.bends + x.others
 -- An event takes a byte at least, so a tally's steps are enough: it ends at what is no event, and each answer before stands
 -- in one count.
 pub record TallyComplete : Type 0 where
-  pub ended : (stream : List ℕ) (c : Cursor) → is_event (tallied stream c).last.answer ≡ false
+  pub ended : (stream : List ℕ) (c : Cursor) → is_event (tallied stream c).last.reply ≡ false
   pub counted : (stream : List ℕ) (c : Cursor)
       → total (tallied stream c).counts + 1 ≡ length (answers (steps_for stream) stream c)

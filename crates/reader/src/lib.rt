@@ -4,13 +4,14 @@
 #![tactic(auto)]
 
 ghost use Rattle.std.specs.Prelude.{◌≡◌, [], ◌∷◌};
-ghost use Rattle.midi.specs.Answers.{is_event};
+ghost use Rattle.midi.specs.Answers.{told};
 ghost use Rattle.midi.specs.Steps.{stepped};
 ghost use Rattle.midi.specs.Streams.{start};
 ghost use Rattle.reader.specs.Readers.{reader_at, at_start};
 ghost use Rattle.reader.specs.Tallies.{counts_of, plus, Within, tallied, TallyComplete};
 
-use midi::{Answer, Cursor, Outcome};
+use midi::{Cursor, Event};
+use outcome::Outcome;
 
 #[derive(Clone, Copy)]
 pub struct Reader<'a> {
@@ -19,7 +20,7 @@ pub struct Reader<'a> {
 }
 
 // How many events of each kind.
-#[derive(Clone, Copy)]
+#[derive(Clone, Copy, Debug, Default, PartialEq, Eq)]
 pub struct Counts {
     pub ons: usize,
     pub offs: usize,
@@ -33,51 +34,21 @@ pub struct Counts {
 #[derive(Clone, Copy)]
 pub struct Tally {
     pub counts: Counts,
-    pub last: Outcome,
+    pub last: Outcome<Cursor, Option<Event>>,
 }
 
-fn none() -> Counts
-    ensures { result ≡ counts_of [] }
-{
-    Counts {
-        ons: 0,
-        offs: 0,
-        pedals: 0,
-        all_offs: 0,
-        bends: 0,
-        others: 0,
-    }
-}
-
-fn is_event(answer: Answer) -> bool
-    ensures { result ≡ is_event answer }
-{
-    match answer {
-        Answer::On(_, _) => true,
-        Answer::Off(_) => true,
-        Answer::Pedal(_) => true,
-        Answer::AllOff => true,
-        Answer::Bend(_) => true,
-        Answer::Other => true,
-        Answer::End => false,
-        Answer::Refused(_) => false,
-    }
-}
-
-// One answer more. The bound leaves room for it in every count.
-fn counted(mut counts: Counts, answer: Answer) -> Counts
+// One event more. The bound leaves room for it in every count.
+fn counted(mut counts: Counts, event: Event) -> Counts
     requires { Within 0xFFFF_FFFF_FFFF_FFFE counts }
-    ensures { result ≡ plus counts (counts_of (answer ∷ [])) }
+    ensures { result ≡ plus counts (counts_of (told event ∷ [])) }
 {
-    match answer {
-        Answer::On(_, _) => counts.ons += 1,
-        Answer::Off(_) => counts.offs += 1,
-        Answer::Pedal(_) => counts.pedals += 1,
-        Answer::AllOff => counts.all_offs += 1,
-        Answer::Bend(_) => counts.bends += 1,
-        Answer::Other => counts.others += 1,
-        Answer::End => {}
-        Answer::Refused(_) => {}
+    match event {
+        Event::On(_, _) => counts.ons += 1,
+        Event::Off(_) => counts.offs += 1,
+        Event::Pedal(_) => counts.pedals += 1,
+        Event::AllOff => counts.all_offs += 1,
+        Event::Bend(_) => counts.bends += 1,
+        Event::Other => counts.others += 1,
     }
     counts
 }
@@ -86,20 +57,13 @@ fn counted(mut counts: Counts, answer: Answer) -> Counts
 fn tally_from(stream: &[u8], from: Cursor) -> Tally
     ensures { result ≡ tallied stream.now from }
 {
-    let mut counts = none();
-    let mut cursor = from;
-    loop {
-        let outcome = midi::step(stream, cursor);
-        let answer = outcome.answer;
-        if !is_event(answer) {
-            return Tally {
-                counts,
-                last: outcome,
-            };
-        }
-        counts = counted(counts, answer);
-        cursor = outcome.cursor;
+    let mut counts = Counts::default();
+    let mut last = midi::step(stream, from);
+    while let Ok(Some(event)) = last.reply {
+        counts = counted(counts, event);
+        last = midi::step(stream, last.state);
     }
+    Tally { counts, last }
 }
 
 impl<'a> Reader<'a> {
@@ -109,15 +73,12 @@ impl<'a> Reader<'a> {
     {
         Reader {
             stream,
-            cursor: Cursor {
-                place: 0,
-                status: 0,
-            },
+            cursor: Cursor::default(),
         }
     }
 
-    // The next event, the stream's end, or a refusal, with the cursor behind it.
-    pub fn step(self) -> Outcome
+    // The next event, none at the stream's end, or a refusal, with the cursor behind it.
+    pub fn step(self) -> Outcome<Cursor, Option<Event>>
         ensures { result ≡ stepped self.entry.stream.now self.entry.cursor }
     {
         midi::step(self.stream, self.cursor)

@@ -1,7 +1,7 @@
-use Rattle.midi.proofs.Whole.{forward, inside, ends}
+use Rattle.midi.proofs.Whole.{moves, ends}
 use Rattle.midi.proofs.progress.Goals as goal
 
--- `midi::progress` meets its contract: `Whole` has the three laws.
+-- `midi::progress` meets its contract: `Whole` has the laws.
 
 pub returns : goal.returns
-returns c = record { forward = forward; inside = inside; ends = ends }
+returns c = record { forward = λ stream c e. (moves stream c e).0; inside = λ stream c e. (moves stream c e).1; ends = ends }

@@ -1,10 +1,9 @@
-use Prim.Native.Nat.{◌-◌}
-use lib.ListN.{length}
-use Rattle.reader.proofs.Turns.{Turn}
+use Rattle.midi.proofs.Whole.{left_over}
+use Rattle.reader.proofs.Turns.{Turned}
 use Rattle.reader.proofs.tally_from.Given as goal
 
-abbrev pub invariant-loop-answer : goal.invariant-loop-answer
-invariant-loop-answer l = Turn l.stream l.initial.cursor l.counts l.cursor
+abbrev pub invariant-loop-last : goal.invariant-loop-last
+invariant-loop-last l = Turned l.stream l.fn.from l.counts l.last
 
-abbrev pub decreases-loop-answer : goal.decreases-loop-answer
-decreases-loop-answer l = length l.stream - l.cursor.place
+abbrev pub decreases-loop-last : goal.decreases-loop-last
+decreases-loop-last l = left_over l.stream l.last
