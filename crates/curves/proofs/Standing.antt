@@ -1,14 +1,15 @@
 -- A voice whose copies no longer move: it is its own later self, and the curve of each copy is one number.
 use mathlib.Core.Path.{◌≡◌, refl, ap, sym, ◌∙◌}
 use mathlib.Core.Bool.{Bool, true, false, false≢true}
-use mathlib.Core.List.{List, [], ◌∷◌, ◌++◌, map, flat_map, map-append}
-use Prim.Native.Nat.{ℕ, zero, suc, ◌+◌, ◌≤◌, ◌<◌}
+use mathlib.Core.List.{List, [], ◌∷◌, ◌++◌, map, flat_map}
+use Prim.Native.Nat.{ℕ, zero, suc, ◌+◌, ◌≤◌, ◌<◌, min}
 use native.Mathlib.Omega.{arith}
 use lib.Ieee.{Float}
 use lib.ListN.{length, take, drop, get_or, replicate, length-take, length-replicate}
-use lib.Seq.{get_or-take}
+use Rattle.std.specs.Bool.{MatchBool}
+use Rattle.std.specs.List.{All, AllWithin, HoldsAt}
 use Rattle.lists.specs.Parts.{head-same, tail-same, part-size, flat-more}
-use Rattle.lists.specs.Prefix.{take_more}
+use Rattle.lists.specs.Prefix.{take_min, mapped, length-mapped, take-mapped}
 use Rattle.stream.specs.declared.UnisonCopy.{UnisonCopy}
 use Rattle.stream.specs.Pitch.{pitched, glide_step, stepped, heard, glided, curve}
 use Rattle.model.specs.Voices.{with_copies, with_voice}
@@ -19,15 +20,21 @@ use Rattle.curves.specs.Glides.{flat, GlidedVoice, StandsAs, StandingCurve}
 use Rattle.curves.proofs.Glides.{wider}
 use Rattle.curves.proofs.Holds.{stays, stays-glided, stays-flat}
 
--- one copy more that stands
-pub stands-more : (n : ℕ) (xs : List UnisonCopy) (j : ℕ) (d : UnisonCopy) → j < length xs → glide_step (get_or xs j d) ≡ (get_or xs j d).pitch
-    → map (glided n) (take j xs) ≡ take j xs → map (glided n) (take (j + 1) xs) ≡ take (j + 1) xs
-stands-more n xs j d h e p =
-    let c = get_or xs j d in
-    rw (take_more xs j d h)
-    (map-append (glided n) (take j xs) (c ∷ [])
-    ∙ ap (λ (l : List UnisonCopy). l ++ (glided n c ∷ [])) p
-    ∙ ap (λ (x : UnisonCopy). take j xs ++ (x ∷ [])) (stays-glided n c (stays c e)))
+-- the next sample leaves the pitch where it is, or moves it
+abbrev pub Still : UnisonCopy → Type 0
+Still c = glide_step c ≡ c.pitch
+
+abbrev pub Moves : UnisonCopy → Type 0
+Moves c = Still c → ⊥
+
+-- by the code's test
+pub moving : (c : UnisonCopy) → (Still c → false ≡ true) → Moves c
+moving c h e = absurd (false≢true (h e))
+
+-- copies that all stand
+stand-glided : (n : ℕ) (cs : List UnisonCopy) → All Still cs → map (glided n) cs ≡ cs
+stand-glided n [] h = refl
+stand-glided n (c ∷ cs) h = rw (stays-glided n c (stays c (h 0 c (omega arith))), stand-glided n cs (λ k d l. h (suc k) d (omega arith)))
 
 -- where no copy moves in one sample, none would
 pub stood : (xs : List UnisonCopy) (j : ℕ) (d : UnisonCopy) → j < length xs → map (glided 1) xs ≡ xs → glide_step (get_or xs j d) ≡ (get_or xs j d).pitch
@@ -44,10 +51,25 @@ flat-all n (c ∷ cs) e = rw (stays-flat n c (head-same e), flat-all n cs (tail-
 
 -- a voice stands where its copies do
 module _ (v : Voice) where
-  -- the code reads the copies that count
-  pub copy_at : (j : ℕ) → j < length (shown v).copies → get_or (shown v).copies j no_copy ≡ get_or v.copies j no_copy
+  copies-count : (n : ℕ) → n ≡ length (shown v).copies → n ≡ min v.copy_count (length v.copies)
   unfolding shown
-  copy_at j h = get_or-take v.copy_count v.copies j no_copy (let l = length-take v.copy_count v.copies in omega arith)
+  copies-count n h = h ∙ length-take v.copy_count v.copies
+
+  -- the code takes the copies that count
+  pub copies-shown : (n : ℕ) → n ≡ length (shown v).copies → take n v.copies ≡ (shown v).copies
+  unfolding shown
+  copies-shown n h = rw (h, length-take) (take_min v.copy_count _ v.copies refl)
+
+  -- and puts them back changed
+  pub copies-back : (f : UnisonCopy → UnisonCopy) (n : ℕ) (new : List UnisonCopy) → n ≡ length (shown v).copies → new ≡ map f (take n v.copies)
+      → take v.copy_count (new ++ drop n v.copies) ≡ map f (shown v).copies
+  copies-back f n new h e =
+      let l = copies-count n h in
+      ap (λ (l : List UnisonCopy). take v.copy_count (l ++ drop n v.copies)) e
+      ∙ sym (take_min v.copy_count (length v.copies) (mapped f n v.copies) (length-mapped f n v.copies))
+      ∙ ap (λ (k : ℕ). take k (mapped f n v.copies)) (sym l)
+      ∙ take-mapped f n v.copies (omega arith)
+      ∙ ap (map f) (copies-shown n h)
 
   later-copies : (n : ℕ) → on_seen (with_copies (glided n)) (seen v) ≡ seen v → map (glided n) (shown v).copies ≡ (shown v).copies
   unfolding seen shown on_seen with_copies with_voice
@@ -60,7 +82,13 @@ module _ (v : Voice) where
   pub one-moves : (map (glided 1) (shown v).copies ≡ (shown v).copies → ⊥) → StandsAs v false
   one-moves moves = record { stays = λ e. absurd (false≢true e); all = λ h. absurd (moves (later-copies 1 (h 1))) }
 
--- the part of one copy, as `hold` writes it
+-- by the copies that the code asks
+pub stands-by : (v : Voice) (cs : List UnisonCopy) (r : Bool) → cs ≡ (shown v).copies
+    → MatchBool r (AllWithin Still cs 0 (length cs)) ((k : ℕ) × (k < length cs) × HoldsAt Moves cs k) → StandsAs v r
+stands-by v cs true e m = all-stand v (rw e at (λ (n : ℕ). stand-glided n cs (λ k d h. m k d (omega arith) h)))
+stands-by v cs false e m = one-moves v (rw e at (λ (h : map (glided 1) cs ≡ cs). m.2 no_copy (stood cs m.0 no_copy m.1 h)))
+
+-- the part of one copy, as the code fills it
 pub flat-writes : (at k frames : ℕ) (xs ys : List Float) (x : Float) (cs : List UnisonCopy) (j : ℕ) (d : UnisonCopy)
     → k ≡ frames → at + frames ≤ length xs → j < length cs → x ≡ heard (get_or cs j d) → take at xs ≡ flat_map (flat frames) (take j cs)
     → ys ≡ replicate (length (take k (drop at xs))) x

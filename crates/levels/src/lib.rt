@@ -3,12 +3,11 @@
 
 #![tactic(auto)]
 
-ghost use Rattle.std.specs.Prelude.{◌≤◌, ◌≡◌, length};
+ghost use Rattle.std.specs.Prelude.{◌≡◌, false};
 ghost use Rattle.std.specs.Float.Ieee.{le};
-ghost use Rattle.float32.specs.Numbers.{one};
-ghost use Rattle.envelope.specs.declared.Stage.TheVariants.{Attack, Decay, Release};
+ghost use Rattle.float32.specs.Numbers.{zero};
 ghost use Rattle.levels.specs.Filled.{FilledAs};
-ghost use Rattle.levels.specs.Runs.{RunAs, slope_of, up, down, always, at_most, never, SlopeAs};
+ghost use Rattle.levels.specs.Runs.{loud, RunAs, slope_of, Steps};
 
 use envelope::{EnvGen, Stage};
 use lists::smaller;
@@ -20,154 +19,92 @@ pub struct Filled {
     pub levels: [f32; 64],
 }
 
-// Where a run stands: the level of its last frame, and the frame that comes next.
+// What each level is multiplied by.
+#[derive(Clone, Copy)]
+struct Loudness {
+    gain: f32,
+    trem: f32,
+}
+
+impl Loudness {
+    fn of(self, level: f32) -> f32
+        ensures { result ≡ loud self level }
+    {
+        level * self.gain * self.trem
+    }
+}
+
+// Where a run stands: the level of its last frame, and how many frames it filled.
 #[derive(Clone, Copy)]
 struct Run {
     level: f32,
     at: usize,
 }
 
-// Up by equal steps, short of 1.
-fn climb(
-    start: f32,
-    step: f32,
-    gain: f32,
-    trem: f32,
-    from: usize,
-    m: usize,
-    buf: &mut [f32; 64],
+// The frames of a stage, step by step, short of its end.
+fn walk<N: Fn(f32) -> f32, E: Fn(f32) -> bool>(
+    e: EnvGen,
+    next: N,
+    ends: E,
+    by: Loudness,
+    frames: &mut [f32],
 ) -> Run
-    requires { (from ≤ m) × (m ≤ 64) × (length buf.old ≡ 64) }
-    ensures { SlopeAs (up step) (le one) start gain trem from m buf.old buf.new result }
+    requires callable { (N.IsAlwaysCallable next) × (E.IsAlwaysCallable ends) }
+    requires steps { Steps e (N.post next) (E.post ends) }
+    ensures { RunAs e by frames.old frames.new result }
 {
-    let mut x = start;
-    let mut f = from;
-    while f < m {
-        let y = x + step;
-        if y >= 1.0 {
-            return Run { level: x, at: f };
+    let mut level = e.level;
+    for (at, frame) in frames.iter_mut().enumerate() {
+        let later = next(level);
+        if ends(later) {
+            return Run { level, at };
         }
-        x = y;
-        buf[f] = y * gain * trem;
-        f += 1;
+        level = later;
+        *frame = by.of(later);
     }
-    Run { level: x, at: f }
+    Run {
+        level,
+        at: frames.len(),
+    }
 }
 
-// Down by equal steps, short of `end`.
-fn descend(
-    start: f32,
-    step: f32,
-    end: f32,
-    gain: f32,
-    trem: f32,
-    from: usize,
-    m: usize,
-    buf: &mut [f32; 64],
+// By the same change in each frame, for `height` in `time` seconds. No run where the time is not above 0: the next tick
+// leaves the stage.
+fn slope<N: Fn(f32, f32) -> f32, E: Fn(f32) -> bool>(
+    e: EnvGen,
+    height: f32,
+    time: f32,
+    next: N,
+    ends: E,
+    by: Loudness,
+    frames: &mut [f32],
 ) -> Run
-    requires { (from ≤ m) × (m ≤ 64) × (length buf.old ≡ 64) }
-    ensures { SlopeAs (down step) (at_most «end») start gain trem from m buf.old buf.new result }
+    requires callable { (N.IsAlwaysCallable next) × (E.IsAlwaysCallable ends) }
+    requires steps { le time zero ≡ false → Steps e (λ x. N.post next x (slope_of height time e.sr)) (E.post ends) }
+    ensures { RunAs e by frames.old frames.new result }
 {
-    let mut x = start;
-    let mut f = from;
-    while f < m {
-        let y = x - step;
-        if y <= end {
-            return Run { level: x, at: f };
-        }
-        x = y;
-        buf[f] = y * gain * trem;
-        f += 1;
-    }
-    Run { level: x, at: f }
-}
-
-// One level to the end.
-fn hold(
-    start: f32,
-    value: f32,
-    gain: f32,
-    trem: f32,
-    from: usize,
-    m: usize,
-    buf: &mut [f32; 64],
-) -> Run
-    requires { (from ≤ m) × (m ≤ 64) × (length buf.old ≡ 64) }
-    ensures { SlopeAs (always value) never start gain trem from m buf.old buf.new result }
-{
-    let loud = value * gain * trem;
-    let mut x = start;
-    let mut f = from;
-    while f < m {
-        x = value;
-        buf[f] = loud;
-        f += 1;
-    }
-    Run { level: x, at: f }
-}
-
-// The change of a level in one frame, for `height` in `time` seconds.
-fn slope(height: f32, time: f32, rate: f32) -> f32
-    ensures { result ≡ slope_of height time rate }
-{
-    height / (time * rate)
-}
-
-// No run where the time is not above 0: the next tick leaves the stage.
-fn run_attack(e: EnvGen, gain: f32, trem: f32, from: usize, m: usize, buf: &mut [f32; 64]) -> Run
-    requires { (e.stage ≡ Attack) × (from ≤ m) × (m ≤ 64) × (length buf.old ≡ 64) }
-    ensures { RunAs e gain trem from m buf.old buf.new result }
-{
-    if e.a <= 0.0 {
+    if time <= 0.0 {
         return Run {
             level: e.level,
-            at: from,
+            at: 0,
         };
     }
-    let step = slope(1.0, e.a, e.sr);
-    climb(e.level, step, gain, trem, from, m, buf)
-}
-
-fn run_decay(e: EnvGen, gain: f32, trem: f32, from: usize, m: usize, buf: &mut [f32; 64]) -> Run
-    requires { (e.stage ≡ Decay) × (from ≤ m) × (m ≤ 64) × (length buf.old ≡ 64) }
-    ensures { RunAs e gain trem from m buf.old buf.new result }
-{
-    if e.d <= 0.0 {
-        return Run {
-            level: e.level,
-            at: from,
-        };
-    }
-    let step = slope(1.0 - e.s, e.d, e.sr);
-    descend(e.level, step, e.s, gain, trem, from, m, buf)
-}
-
-fn run_release(e: EnvGen, gain: f32, trem: f32, from: usize, m: usize, buf: &mut [f32; 64]) -> Run
-    requires { (e.stage ≡ Release) × (from ≤ m) × (m ≤ 64) × (length buf.old ≡ 64) }
-    ensures { RunAs e gain trem from m buf.old buf.new result }
-{
-    if e.r <= 0.0 {
-        return Run {
-            level: e.level,
-            at: from,
-        };
-    }
-    let step = slope(e.rel_from, e.r, e.sr);
-    descend(e.level, step, 0.0, gain, trem, from, m, buf)
+    let change = height / (time * e.sr);
+    walk(e, |x| next(x, change), ends, by, frames)
 }
 
 // The run of the stage that the envelope is in.
-fn run_stage(e: EnvGen, gain: f32, trem: f32, from: usize, m: usize, buf: &mut [f32; 64]) -> Run
-    requires { (from ≤ m) × (m ≤ 64) × (length buf.old ≡ 64) }
-    ensures { RunAs e gain trem from m buf.old buf.new result }
+fn run_stage(e: EnvGen, by: Loudness, frames: &mut [f32]) -> Run
+    ensures { RunAs e by frames.old frames.new result }
 {
-    let stage = e.stage;
-    match stage {
-        Stage::Idle => hold(e.level, 0.0, gain, trem, from, m, buf),
-        Stage::Attack => run_attack(e, gain, trem, from, m, buf),
-        Stage::Decay => run_decay(e, gain, trem, from, m, buf),
-        Stage::Sustain => hold(e.level, e.s, gain, trem, from, m, buf),
-        Stage::Release => run_release(e, gain, trem, from, m, buf),
+    let up = |x: f32, change: f32| x + change;
+    let down = |x: f32, change: f32| x - change;
+    match e.stage {
+        Stage::Idle => walk(e, |_| 0.0, |_| false, by, frames),
+        Stage::Attack => slope(e, 1.0, e.a, up, |y| y >= 1.0, by, frames),
+        Stage::Decay => slope(e, 1.0 - e.s, e.d, down, |y| y <= e.s, by, frames),
+        Stage::Sustain => walk(e, |_| e.s, |_| false, by, frames),
+        Stage::Release => slope(e, e.rel_from, e.r, down, |y| y <= 0.0, by, frames),
     }
 }
 
@@ -175,22 +112,20 @@ fn run_stage(e: EnvGen, gain: f32, trem: f32, from: usize, m: usize, buf: &mut [
 pub fn fill(e: EnvGen, gain: f32, trem: f32, m: usize) -> Filled
     ensures { FilledAs e gain trem m result }
 {
+    let by = Loudness { gain, trem };
     let n = smaller(m, 64);
-    let mut buf = [0.0f32; 64];
-    let mut w = e;
+    let mut levels = [0.0f32; 64];
+    let mut env = e;
     let mut f: usize = 0;
     while f < n {
-        let s = run_stage(w, gain, trem, f, n, &mut buf);
-        w.level = s.level;
-        f = s.at;
+        let run = run_stage(env, by, &mut levels[f..n]);
+        env.level = run.level;
+        f += run.at;
         if f < n {
-            w = w.tick();
-            buf[f] = w.level * gain * trem;
+            env = env.tick();
+            levels[f] = by.of(env.level);
             f += 1;
         }
     }
-    Filled {
-        env: w,
-        levels: buf,
-    }
+    Filled { env, levels }
 }

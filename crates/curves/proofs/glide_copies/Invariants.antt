@@ -8,10 +8,10 @@ use Rattle.curves.proofs.glide_copies.Given as goal
 
 abbrev pub invariant-loop-j : goal.invariant-loop-j
 invariant-loop-j l =
-    (l.j ≤ l.n) × (length l.curve ≡ length l.initial.curve)
-    × (l.at + l.frames * (l.n - l.j) ≡ length l.initial.curve)
-    × (l.cs ≡ mapped (glided l.frames) l.j l.copies)
-    × (take l.at l.curve ≡ flat_map (curve_of l.frames) (take l.j l.copies))
+    (l.j ≤ length l.initial.copies)
+    × (l.at + l.frames * (length l.initial.copies - l.j) ≡ length l.initial.curve)
+    × (l.copies ≡ mapped (glided l.frames) l.j l.initial.copies)
+    × (take l.at l.curve ≡ flat_map (curve_of l.frames) (take l.j l.initial.copies))
 
 abbrev pub decreases-loop-j : goal.decreases-loop-j
-decreases-loop-j l = l.n - l.j
+decreases-loop-j l = length l.initial.copies - l.j

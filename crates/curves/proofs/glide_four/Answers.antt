@@ -5,15 +5,13 @@ use Rattle.curves.proofs.glide_four.Goals as goal
 pub loop-i-init : goal.loop-i-init
 loop-i-init c = rows_none _ _ _ (rw c.well_formed.0.1.0.1 c.requires)
 
-pub write_four-requires : goal.write_four-requires
-write_four-requires c = omega (arith, c.requires, c.loop-i.invariant.size)
+pub step_four-requires : goal.step_four-requires
+step_four-requires c = omega (arith, c.requires, c.loop-i.invariant.size)
 
 pub loop-i-preserved : goal.loop-i-preserved
 loop-i-preserved c =
-    rows_more _ _ _ (rw c.well_formed.0.1.0.1 c.requires) (omega arith) c.step_four-later.ensures c.write_four.ensures c.loop-i.invariant
-
-pub shape_of-curve : goal.shape_of-curve
-shape_of-curve c = c.loop-i.invariant.size
+    let e = c.step_four.ensures in
+    rows_more _ _ _ (rw c.well_formed.0.1.0.1 c.requires) (omega arith) e.0 e.1 c.loop-i.invariant
 
 pub returns : goal.returns
 returns c = rows_whole _ _ _ (rw c.well_formed.0.1.0.1 c.requires) (let h = c.loop-i.invariant.short in omega arith) c.loop-i.invariant

@@ -1,22 +1,22 @@
-use mathlib.Core.Path.{refl}
+use mathlib.Core.Path.{ap, ◌∙◌}
+use mathlib.Core.List.{flat_map}
 use Rattle.model.specs.Voices.{with_copies, with_voice}
+use Rattle.stream.specs.Pitch.{glided, curve as curve_of}
 use Rattle.voice.specs.View.{shown, seen}
 use Rattle.voice.specs.Changes.{on_seen}
-use Rattle.curves.proofs.Glides.{fits, misfits}
+use Rattle.curves.proofs.Glides.{fits}
+use Rattle.curves.proofs.Standing.{copies-shown, copies-back}
 use Rattle.curves.proofs.glide_voice.Goals as goal
 
-pub returns-then-not-fills : goal.returns-then-not-fills
-returns-then-not-fills c =
-    let no = misfits _ _ _ _ _ c.fills.ensures c.copies_shown.ensures.1 c.if-not-fills.true in
-    record { voice = λ h. absurd (no h); numbers = λ h. absurd (no h); other = λ _. (refl, refl) }
-
-pub glide_copies-next-requires : goal.glide_copies-next-requires
-unfolding shown
-glide_copies-next-requires c = fits _ _ _ _ _ c.fills.ensures c.copies_shown.ensures.1 c.if-not-fills.false
-
-pub returns : goal.returns
+pub returns-then-fills : goal.returns-then-fills
 unfolding seen shown on_seen with_copies with_voice
-returns c =
-    let g = c.glide_copies-next.ensures in
-    let fitting = fits _ _ _ _ _ c.fills.ensures c.copies_shown.ensures.1 c.if-not-fills.false in
-    record { voice = λ _. rw g.copies; numbers = λ _. g.numbers; other = λ no. absurd (no fitting) }
+returns-then-fills c =
+    let a = c.args in
+    let n = c.copies_shown-n in
+    let g = c.glide_copies.ensures in
+    let fitting = fits _ _ _ _ _ c.fills.ensures n.ensures.1 c.if-fills.true in
+    record {
+      voice = λ _. rw (copies-back a.v (glided a.frames) n.result _ n.ensures.1 g.copies);
+      numbers = λ _. g.numbers ∙ ap (flat_map (curve_of a.frames)) (copies-shown a.v n.result n.ensures.1);
+      other = λ no. absurd (no fitting);
+    }

@@ -1,7 +1,6 @@
-use mathlib.Core.Path.{refl}
-use Rattle.stream.specs.Pitch.{pitched, glide_step, stepped}
+use Rattle.stream.specs.Pitch.{pitched, stepped}
 use Rattle.curves.proofs.step.Goals as goal
 
 pub returns : goal.returns
-unfolding pitched glide_step stepped
-returns c = refl
+unfolding pitched stepped
+returns c = rw c.next_pitch.ensures
