@@ -3,21 +3,18 @@ use mathlib.Core.Path.{◌≡◌, refl, ap, sym, ◌∙◌}
 use mathlib.Core.Bool.{Bool, true, false}
 use mathlib.Core.List.{List, [], ◌∷◌, ◌++◌, append_assoc}
 use Prim.Native.Nat.{ℕ, zero, suc, ◌+◌, ◌-◌, ◌*◌, ◌/◌, ◌%◌, ◌≤◌, ◌<◌}
-use native.Mathlib.Nat.{div-add-mod, mod-lt}
 use native.Mathlib.Omega.{arith}
-use lib.Dec.{leb, ltb}
-use borrow.Author.Tests.{leb-true, leb-false, ltb-true, ltb-false, lt-ltb, le-ltb}
-use lib.ListN.{length, drop, length-append}
+use lib.Dec.{ltb}
+use borrow.Author.Tests.{ltb-true, ltb-false, lt-ltb, le-ltb}
+use lib.ListN.{length, drop, length-append, length-drop}
+use lib.Seq.{drop-drop}
 use Rattle.lists.specs.Prefix.{fold, fold-snoc}
-use Rattle.text.specs.declared.Read.{Read}
 use Rattle.text.specs.Text.{figure, figures, decimal_text, NoDigit}
-use Rattle.text.specs.Read.{DecimalAs, FigureAs, GrowsAs}
-use Rattle.lists.specs.Parts.{head-same, tail-same, parts_same, front-on}
-use Rattle.text.proofs.Spelt.{Spelt, spelt-append, begun}
-
--- a number is parted at its last digit
-pub tens : (n : ℕ) → (10 * (n / 10) + n % 10 ≡ n) × (n % 10 < 10)
-tens n = (div-add-mod n 10, mod-lt n (omega arith))
+use Rattle.std.proofs.Common.{Some, None}
+use Rattle.text.specs.Read.{DecimalAs, Got}
+use Rattle.lists.specs.Parts.{head-same, tail-same, parts_same, front-on, no_length}
+use Rattle.text.proofs.Spelt.{Spelt, spelt-append, begun, none-empty}
+use Rattle.text.proofs.Once.{read-none, read-some}
 
 -- division may be allowed more often than is needed
 enough : (j k n : ℕ) → n ≤ j → n ≤ k → figures j n ≡ figures k n
@@ -30,7 +27,6 @@ enough (suc j) (suc k) n hj hk = by (ltb n 10) refl (enough j k (n / 10))
     by true e ih = rw e
     by false e ih =
         let q : 10 ≤ n = ltb-false _ _ e in
-        let t = tens n in
         rw (e, ih (omega arith) (omega arith))
 
 pub text-one : (d : ℕ) → d < 10 → decimal_text d ≡ figure d ∷ []
@@ -45,7 +41,6 @@ text-more v d hv hd = by (10 * v + d) refl
     by : (n : ℕ) → n ≡ 10 * v + d → figures n n ≡ figures v v ++ (figure d ∷ [])
     by zero e = let z : ⊥ = omega arith in absurd z
     by (suc k) e =
-        let t = tens (suc k) in
         let q : suc k / 10 ≡ v = omega arith in
         let m : suc k % 10 ≡ d = omega arith in
         let ih : figures k v ≡ figures v v = enough k v v (omega arith) (omega arith) in
@@ -78,7 +73,6 @@ number-figures (suc k) n = by (ltb n 10) refl (number-figures k (n / 10))
     by true e ih = rw e (omega arith)
     by false e ih =
         let s = number-snoc 0 (figures k (n / 10)) (n % 10) in
-        let t = tens n in
         rw e (s ∙ (omega arith))
 
 pub number-text : (n : ℕ) → number 0 (decimal_text n) ≡ n
@@ -102,8 +96,7 @@ spelt-figures (suc k) n h = by (ltb n 10) refl (spelt-figures k (n / 10))
     by true e ih = rw e (record { value = n; small = ltb-true _ _ e; is = refl }, tt)
     by false e ih =
         let q : 10 ≤ n = ltb-false _ _ e in
-        let t = tens n in
-        rw e (spelt-append 10 figure (figures k (n / 10)) (figure (n % 10) ∷ []) (ih (omega arith)) (record { value = n % 10; small = t.1; is = refl }, tt))
+        rw e (spelt-append 10 figure (figures k (n / 10)) (figure (n % 10) ∷ []) (ih (omega arith)) (record { value = n % 10; small = omega arith; is = refl }, tt))
 
 pub spelt-text : (n : ℕ) → Spelt 10 figure (decimal_text n)
 unfolding decimal_text
@@ -133,7 +126,6 @@ leads (suc k) n rest more h p e = by (ltb n 10) refl (leads k (n / 10) (figure (
         omega arith
     by false t ih =
         let q : 10 ≤ n = ltb-false _ _ t in
-        let s = tens n in
         let f : (figures k (n / 10) ++ (figure (n % 10) ∷ [])) ++ rest ≡ 48 ∷ more = rw t at e in
         ih (omega arith) (omega arith) (sym (append_assoc (figures k (n / 10)) (figure (n % 10) ∷ []) rest) ∙ f)
 
@@ -142,21 +134,17 @@ unfolding decimal_text
 text-leads n rest more p e = leads n n rest more (omega arith) p e
 
 -- one text with no digit behind it is the text of one number
-pub record Same (v w : ℕ) (rest more : List ℕ) : Type 0 where
-  pub value : v ≡ w
-  pub left : rest ≡ more
-
-pub text_same : (v w : ℕ) (rest more : List ℕ) → NoDigit rest → NoDigit more → decimal_text v ++ rest ≡ decimal_text w ++ more → Same v w rest more
+pub text_same : (v w : ℕ) (rest more : List ℕ) → NoDigit rest → NoDigit more → decimal_text v ++ rest ≡ decimal_text w ++ more → (v ≡ w) × (rest ≡ more)
 text_same v w rest more f g e = by (ltb (length (decimal_text v)) (length (decimal_text w))) refl (ltb (length (decimal_text w)) (length (decimal_text v))) refl
   where
-    by : (a : Bool) → ltb (length (decimal_text v)) (length (decimal_text w)) ≡ a → (b : Bool) → ltb (length (decimal_text w)) (length (decimal_text v)) ≡ b → Same v w rest more
+    by : (a : Bool) → ltb (length (decimal_text v)) (length (decimal_text w)) ≡ a → (b : Bool) → ltb (length (decimal_text w)) (length (decimal_text v)) ≡ b → (v ≡ w) × (rest ≡ more)
     by true p b q = absurd (begun 10 figure (decimal_text w) (decimal_text v) more rest (spelt-text w) (ltb-true _ _ p) (sym e) f)
     by false p true q = absurd (begun 10 figure (decimal_text v) (decimal_text w) rest more (spelt-text v) (ltb-true _ _ q) e g)
     by false p false q =
         let l : length (decimal_text w) ≤ length (decimal_text v) = ltb-false _ _ p in
         let m : length (decimal_text v) ≤ length (decimal_text w) = ltb-false _ _ q in
         let s = parts_same (decimal_text v) (decimal_text w) rest more (omega arith) e in
-        record { value = sym (number-text v) ∙ ap (number 0) s.0 ∙ number-text w; left = s.1 }
+        (sym (number-text v) ∙ ap (number 0) s.0 ∙ number-text w, s.1)
 
 -- a decimal with no digit behind it is no less than what its first digits say
 text-bound : (v w : ℕ) (rest more : List ℕ) → NoDigit rest → decimal_text v ++ rest ≡ decimal_text w ++ more → w ≤ v
@@ -166,95 +154,76 @@ text-bound v w rest more f e = by (ltb (length (decimal_text v)) (length (decima
     by true p = absurd (begun 10 figure (decimal_text w) (decimal_text v) more rest (spelt-text w) (ltb-true _ _ p) (sym e) f)
     by false p = longer v w _ (front-on (decimal_text v) (decimal_text w) rest more (ltb-false _ _ p) e)
 
--- the reader
-abbrev pub missing : ℕ → Read
-missing at = record { ok = false; value = 0; next = at }
-
-abbrev pub found : ℕ → ℕ → Read
-found v next = record { ok = true; value = v; next = next }
-
-pub never : (b : Bool) {A : Type 0} → b ≡ true → b ≡ false → A
-never b e f = let z : ◌≡◌ {A = ℕ} 0 1 = cc in let y : ⊥ = omega arith in absurd y
-
--- whether one more digit fits
-module _ (value d most : ℕ) where
-  pub grows-zero : value ≡ 0 → GrowsAs value d most false
-  grows-zero h = record { yes = λ e. never false e refl; no = λ _ k. let z : ⊥ = omega arith in absurd z }
-
-  pub grows-over : most / 10 < value → GrowsAs value d most false
-  grows-over h = let t = tens most in record { yes = λ e. never false e refl; no = λ _ k. omega arith }
-
-  pub grows-by : (value ≡ 0 → ⊥) → value ≤ most / 10 → GrowsAs value d most (leb d (most - 10 * value))
-  grows-by z h =
-      let t = tens most in
-      record {
-        yes = λ e. let q : d ≤ most - 10 * value = leb-true _ _ e in (by value z, omega arith);
-        no = λ e k. let q : most - 10 * value < d = leb-false _ _ e in omega arith;
-      }
-    where
-      by : (n : ℕ) → (n ≡ 0 → ⊥) → 1 ≤ n
-      by zero f = absurd (f refl)
-      by (suc n) f = omega arith
+-- ---- the reader
 
 module _ (l : List ℕ) (at most : ℕ) where
-  -- no decimal stands there
-  none : ((v : ℕ) (rest : List ℕ) → v ≤ most → NoDigit rest → drop at l ≡ decimal_text v ++ rest → ⊥) → DecimalAs most l at (missing at)
-  none f = record { yes = λ e. never false e refl; no = λ _. (refl, refl); only = λ v rest _ h g e. absurd (f v rest h g e) }
+  none : ((v next : ℕ) → Got decimal_text (λ v. v ≤ most) NoDigit l at v next → ⊥) → DecimalAs most l at None
+  none = read-none decimal_text (λ v. v ≤ most) NoDigit l at
 
-  pub none_first : (d : ℕ) → FigureAs 10 figure l at d → 10 ≤ d → DecimalAs most l at (missing at)
-  none_first d f h = none (λ v rest _ _ e. begun 10 figure (decimal_text v) [] rest (drop at l) (spelt-text v) (some-text v) (sym e) (f.no h))
+  -- no digit stands there
+  pub none_first : NoDigit (drop at l) → DecimalAs most l at None
+  none_first f = none (λ v next g. begun 10 figure (decimal_text v) [] (drop next l) (drop at l) (spelt-text v) (some-text v) (sym g.stands.whole) f)
 
-  -- what was read so far
-  pub record Reading (value next : ℕ) : Type 0 where
-    pub whole : drop at l ≡ decimal_text value ++ drop next l
+  pub none_end : length (drop at l) ≡ 0 → DecimalAs most l at None
+  none_end e = none_first (let z : drop at l ≡ [] = no_length (drop at l) e in rw z (none-empty 10 figure))
+
+  -- what was read so far, before `more`
+  pub record Reading (value next : ℕ) (more : List ℕ) : Type 0 where
+    pub whole : drop at l ≡ decimal_text value ++ more
+    pub behind : drop next l ≡ more
     pub fits : value ≤ most
     pub inside : next ≤ length l
     pub begins : at ≤ length l
 
-  read_first : (d : ℕ) → FigureAs 10 figure l at d → d < 10 → drop at l ≡ decimal_text d ++ drop (at + 1) l
-  read_first d f h = rw (text-one d h) (f.yes h)
+  none_over : (w : ℕ) (more : List ℕ) → drop at l ≡ decimal_text w ++ more → most < w → DecimalAs most l at None
+  none_over w more s h = none (λ v next g. let q = text-bound v w (drop next l) more g.ends (sym g.stands.whole ∙ s) in let k = g.fits in omega arith)
 
-  none_over : (w : ℕ) (more : List ℕ) → drop at l ≡ decimal_text w ++ more → most < w → DecimalAs most l at (missing at)
-  none_over w more s h = none (λ v rest k g e. let q = text-bound v w rest more g (sym e ∙ s) in omega arith)
+  module _ (d : ℕ) (more : List ℕ) (h : d < 10) (s : drop at l ≡ figure d ∷ more) where
+    pub none-large : most < d → DecimalAs most l at None
+    none-large k = none_over d more (s ∙ ap (λ (t : List ℕ). t ++ more) (sym (text-one d h))) k
 
-  pub none-large : (d : ℕ) → FigureAs 10 figure l at d → d < 10 → most < d → DecimalAs most l at (missing at)
-  none-large d f h k = none_over d (drop (at + 1) l) (read_first d f h) k
+    pub reading-first : d ≤ most → Reading d (at + 1) more
+    reading-first k =
+        let i = ap length s in
+        let j = length-drop at l in
+        record {
+          whole = s ∙ ap (λ (t : List ℕ). t ++ more) (sym (text-one d h));
+          behind = sym (drop-drop 1 at l) ∙ ap (drop 1) s;
+          fits = k;
+          inside = omega arith;
+          begins = omega arith;
+        }
 
-  pub reading-first : (d : ℕ) → FigureAs 10 figure l at d → d < 10 → d ≤ most → Reading d (at + 1)
-  reading-first d f h k = let i = f.inside h in record { whole = read_first d f h; fits = k; inside = omega arith; begins = omega arith }
+  module _ (value next d : ℕ) (more : List ℕ) (h : d < 10) (s : Reading value next (figure d ∷ more)) where
+    read_more : 1 ≤ value → drop at l ≡ decimal_text (10 * value + d) ++ more
+    read_more p = s.whole ∙ sym (append_assoc (decimal_text value) (figure d ∷ []) more) ∙ ap (λ (t : List ℕ). t ++ more) (sym (text-more value d p h))
 
-  module _ (value next d : ℕ) (s : Reading value next) (f : FigureAs 10 figure l next d) where
-    read_more : d < 10 → 1 ≤ value → drop at l ≡ decimal_text (10 * value + d) ++ drop (next + 1) l
-    read_more h p =
-        s.whole ∙ ap (λ (t : List ℕ). decimal_text value ++ t) (f.yes h)
-        ∙ sym (append_assoc (decimal_text value) (figure d ∷ []) (drop (next + 1) l))
-        ∙ ap (λ (t : List ℕ). t ++ drop (next + 1) l) (sym (text-more value d p h))
+    pub reading-more : 1 ≤ value → 10 * value + d ≤ most → Reading (10 * value + d) (next + 1) more
+    reading-more p k =
+        let i = ap length s.behind in
+        let j = length-drop next l in
+        record { whole = read_more p; behind = sym (drop-drop 1 next l) ∙ ap (drop 1) s.behind; fits = k; inside = omega arith; begins = s.begins }
 
-    pub reading-more : d < 10 → 1 ≤ value → 10 * value + d ≤ most → Reading (10 * value + d) (next + 1)
-    reading-more h p k = let i = f.inside h in record { whole = read_more h p; fits = k; inside = omega arith; begins = s.begins }
-
-    pub none_more : d < 10 → (1 ≤ value → most < 10 * value + d) → DecimalAs most l at (missing at)
-    none_more h k = by value refl
+    pub none_more : ((1 ≤ value) × (10 * value + d ≤ most) → ⊥) → DecimalAs most l at None
+    none_more k = by value refl
       where
-        by : (n : ℕ) → value ≡ n → DecimalAs most l at (missing at)
-        by zero z = none (λ v rest _ g e. after v rest g (sym e ∙ begins))
+        by : (n : ℕ) → value ≡ n → DecimalAs most l at None
+        by zero z = none (λ v after g. ends v (drop after l) g.ends (sym g.stands.whole ∙ begins))
           where
-            begins : drop at l ≡ 48 ∷ figure d ∷ drop (next + 1) l
-            begins =
-                s.whole ∙ ap (λ (n : ℕ). decimal_text n ++ drop next l) z
-                ∙ ap (λ (t : List ℕ). t ++ drop next l) (text-one 0 (omega arith))
-                ∙ ap (◌∷◌ 48) (f.yes h)
+            begins : drop at l ≡ 48 ∷ figure d ∷ more
+            begins = s.whole ∙ ap (λ (n : ℕ). decimal_text n ++ (figure d ∷ more)) z ∙ ap (λ (t : List ℕ). t ++ (figure d ∷ more)) (text-one 0 (omega arith))
 
-            after : (v : ℕ) (rest : List ℕ) → NoDigit rest → decimal_text v ++ rest ≡ 48 ∷ figure d ∷ drop (next + 1) l → ⊥
-            after zero rest g e = g d (drop (next + 1) l) h (tail-same (sym (ap (λ (t : List ℕ). t ++ rest) (text-one 0 (omega arith))) ∙ e))
-            after (suc v) rest g e = text-leads (suc v) rest _ (omega arith) e
-        by (suc n) z = none_over (10 * value + d) (drop (next + 1) l) (read_more h (omega arith)) (k (omega arith))
+            ends : (v : ℕ) (rest : List ℕ) → NoDigit rest → decimal_text v ++ rest ≡ 48 ∷ figure d ∷ more → ⊥
+            ends zero rest g e = g d more h (tail-same (sym (ap (λ (t : List ℕ). t ++ rest) (text-one 0 (omega arith))) ∙ e))
+            ends (suc v) rest g e = text-leads (suc v) rest _ (omega arith) e
+        by (suc n) z = none_over (10 * value + d) more (read_more (omega arith)) (let f : 10 * value + d ≤ most → ⊥ = λ h. k (omega arith, h) in omega arith)
 
-    pub read_done : 10 ≤ d → DecimalAs most l at (found value next)
-    read_done h = record {
-      yes = λ _. record { whole = s.whole; fits = s.fits; ends = f.no h; inside = s.inside; begins = s.begins };
-      no = λ e. never true refl e;
-      only = λ v rest _ _ g e.
-          let q = text_same value v (drop next l) rest (f.no h) g (sym s.whole ∙ e) in
-          record { ok = refl; value = q.value; left = q.left };
-    }
+  pub read_done : (value next : ℕ) (more : List ℕ) → Reading value next more → NoDigit more → DecimalAs most l at (Some (value, next))
+  read_done value next more s f =
+      let b = s.behind in
+      let g : Got decimal_text (λ v. v ≤ most) NoDigit l at value next = record {
+        stands = record { whole = rw b s.whole; inside = s.inside; begins = s.begins };
+        fits = s.fits;
+        ends = rw b f;
+      } in
+      read-some decimal_text (λ v. v ≤ most) NoDigit l at value next g (λ w rest _ h e. text_same value w (drop next l) rest g.ends h e)

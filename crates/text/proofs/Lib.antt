@@ -1,7 +1,6 @@
+mod Once
 mod Spelt
 mod Decimals
 mod Words
 mod Literals
-mod Puts
 mod Spells
-mod Once

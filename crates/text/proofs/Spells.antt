@@ -1,14 +1,13 @@
 -- Digits written into a buffer from its end to its front.
 use mathlib.Core.Path.{◌≡◌, ap, sym, ◌∙◌}
 use mathlib.Core.List.{List, [], ◌∷◌, ◌++◌, append_assoc, append-nil}
-use Prim.Native.Nat.{ℕ, zero, suc, ◌-◌, ◌*◌, ◌/◌, ◌%◌, ◌≤◌, ◌<◌}
+use Prim.Native.Nat.{ℕ, zero, suc, ◌+◌, ◌*◌, ◌/◌, ◌%◌, ◌≤◌, ◌<◌}
 use native.Mathlib.Omega.{arith}
-use lib.ListN.{length, take, drop, set, length-drop, length-set, drop_of_length-le}
-use lib.Seq.{take_all}
+use lib.ListN.{length, drop, set, length-set, drop_of_length-le}
 use Rattle.lists.specs.Parts.{drop-set}
 use Rattle.text.specs.Text.{figure, decimal_text, glyph, glyphs, word_text}
-use Rattle.text.specs.Put.{EndsIn, PutAs}
-use Rattle.text.proofs.Decimals.{tens, text-one, text-more}
+use Rattle.text.specs.Put.{EndsIn}
+use Rattle.text.proofs.Decimals.{text-one, text-more}
 
 -- 10 to the k
 abbrev pub tenfold : ℕ → ℕ
@@ -41,9 +40,9 @@ module _ (n : ℕ) (buffer : List ℕ) (rest i k : ℕ) (s : Figuring n buffer r
 
   pub figuring-more : 9 < rest → Figuring n (set buffer k (figure (rest % 10))) (rest / 10) k
   figuring-more h =
-      let t = tens rest in
+      let digits : 10 * (rest / 10) + rest % 10 ≡ rest = omega arith in
       let m : decimal_text rest ≡ decimal_text (rest / 10) ++ (figure (rest % 10) ∷ []) =
-      ap decimal_text (sym t.0) ∙ text-more (rest / 10) (rest % 10) (omega arith) t.1 in
+      ap decimal_text (sym digits) ∙ text-more (rest / 10) (rest % 10) (omega arith) (omega arith) in
       let r : rest < 10 * tenfold k = rw e at s.small in
       let b = s.inside in
       record {
@@ -60,15 +59,18 @@ module _ (n : ℕ) (buffer : List ℕ) (rest i k : ℕ) (s : Figuring n buffer r
       by zero r = omega arith
       by (suc j) r = omega arith
 
-  pub figuring-done : rest ≤ 9 → EndsIn (decimal_text n) (set buffer k (figure rest)) k
-  figuring-done h =
-      let a = s.size in
-      let b = s.inside in
-      let l = length-set buffer k (figure rest) in
-      record {
-        ends = front (figure rest) ∙ ap (λ (u : List ℕ). u ++ drop i buffer) (sym (text-one rest (omega arith))) ∙ sym s.whole;
-        inside = omega arith;
-      }
+  pub figuring-done : rest ≤ 9 → EndsIn (decimal_text n) (set buffer k (figure (rest % 10))) k
+  figuring-done h = let m : rest % 10 ≡ rest = omega arith in rw m last
+    where
+      last : EndsIn (decimal_text n) (set buffer k (figure rest)) k
+      last =
+          let a = s.size in
+          let b = s.inside in
+          let l = length-set buffer k (figure rest) in
+          record {
+            ends = front (figure rest) ∙ ap (λ (u : List ℕ). u ++ drop i buffer) (sym (text-one rest (omega arith))) ∙ sym s.whole;
+            inside = omega arith;
+          }
 
 -- the digits of n but the first i stand from i on
 pub record Glyphing (n : ℕ) (buffer : List ℕ) (rest i : ℕ) : Type 0 where
@@ -98,11 +100,3 @@ glyphing-more n buffer rest i k x s e f =
 
 pub glyphing-done : (n : ℕ) (buffer : List ℕ) (rest i : ℕ) → Glyphing n buffer rest i → i ≤ 0 → buffer ≡ word_text n
 glyphing-done n buffer rest i s h = let z : i ≡ 0 = omega arith in let w : word_text n ≡ glyphs 0 rest ++ drop 0 buffer = rw z at s.whole in sym w
-
--- the part of the buffer that is handed on is the text
-pub put-part : (text buffer old new : List ℕ) (from at next : ℕ) → EndsIn text buffer from → length buffer ≡ 20
-    → PutAs (take (20 - from) (drop from buffer)) old at new next → PutAs text old at new next
-put-part text buffer old new from at next e s p =
-    let l = length-drop from buffer in
-    let q : take (20 - from) (drop from buffer) ≡ text = take_all (20 - from) (drop from buffer) (omega arith) ∙ e.ends in
-    rw (← q) p

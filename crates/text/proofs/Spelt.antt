@@ -1,12 +1,13 @@
 -- Texts made of digits: the bytes `byte d` of the numbers d below b.
-use mathlib.Core.Path.{◌≡◌, ap, sym, ◌∙◌}
+use mathlib.Core.Path.{◌≡◌, refl, ap, sym, ◌∙◌}
 use mathlib.Core.List.{List, [], ◌∷◌, ◌++◌}
-use Prim.Native.Nat.{ℕ, ◌+◌, ◌≤◌, ◌<◌}
+use Prim.Native.Nat.{ℕ, ◌-◌, ◌<◌}
 use native.Mathlib.Omega.{arith}
-use lib.ListN.{length, drop, get_or, drop_of_length-le}
-use Rattle.lists.specs.Prefix.{drop_more}
+use lib.ListN.{length, take, drop, length-drop}
+use lib.Seq.{take_all}
+use Rattle.std.proofs.Common.{None}
+use Rattle.text.specs.Read.{ValueAs}
 use Rattle.lists.specs.Parts.{head-same, tail-same}
-use Rattle.text.specs.Read.{ValueAs, FigureAs}
 use Rattle.text.specs.Text.{NoneFirst}
 
 module _ (b : ℕ) (byte : ℕ → ℕ) where
@@ -31,17 +32,13 @@ module _ (b : ℕ) (byte : ℕ → ℕ) where
       f s.0.value (xs ++ rest) s.0.small (sym e ∙ ap (λ (y : ℕ). y ∷ (xs ++ rest)) q)
   begun (x ∷ xs) (y ∷ ys) rest more s h e f = begun xs ys rest more s.1 (omega arith) (tail-same e) f
 
-  -- a digit at a place of a line
-  pub figure-in : (l : List ℕ) (at r : ℕ) → at < length l → ValueAs b byte (get_or l at 0) r → FigureAs b byte l at r
-  figure-in l at r h v = record {
-    yes = λ k. drop_more l at 0 h ∙ ap (λ (x : ℕ). x ∷ drop (at + 1) l) (v.yes k);
-    inside = λ _. h;
-    no = λ k d rest s e. v.no k d s (head-same (sym (drop_more l at 0 h) ∙ e));
-  }
+  -- a byte that is no digit
+  pub none-here : (x : ℕ) (more : List ℕ) → ValueAs b byte x None → NoneFirst b byte (x ∷ more)
+  none-here x more v d rest s e = v.no refl d s (head-same e)
 
-  pub figure-out : (l : List ℕ) (at : ℕ) → length l ≤ at → FigureAs b byte l at b
-  figure-out l at h = record {
-    yes = λ k. let z : ⊥ = omega arith in absurd z;
-    inside = λ k. omega arith;
-    no = λ k d rest s e. let q : ◌≡◌ {A = List ℕ} [] (byte d ∷ rest) = sym (drop_of_length-le l h) ∙ e in let z : ◌≡◌ {A = ℕ} 0 1 = cc in omega arith;
-  }
+  pub none-empty : NoneFirst b byte []
+  none-empty d rest s e = let z : ⊥ = cc in absurd z
+
+-- the rest of a line from a place on
+pub from-here : (l rest : List ℕ) (at : ℕ) → rest ≡ take (length l - at) (drop at l) → rest ≡ drop at l
+from-here l rest at e = e ∙ take_all (length l - at) (drop at l) (let d = length-drop at l in omega arith)

@@ -2,21 +2,20 @@
 use mathlib.Core.Path.{◌≡◌, refl, ap, sym, ◌∙◌}
 use mathlib.Core.Bool.{Bool, true, false}
 use mathlib.Core.List.{List, [], ◌∷◌, ◌++◌, append_assoc}
-use Prim.Native.Nat.{ℕ, zero, suc, ◌+◌, ◌-◌, ◌*◌, ◌/◌, ◌%◌, ◌≤◌, ◌<◌}
-use native.Mathlib.Nat.{div-add-mod, mod-lt}
+use Prim.Native.Nat.{ℕ, zero, suc, ◌+◌, ◌*◌, ◌/◌, ◌%◌, ◌≤◌, ◌<◌}
 use native.Mathlib.Numerals.{add-one}
 use native.Mathlib.Omega.{arith}
 use lib.Dec.{ltb}
 use borrow.Author.Tests.{ltb-true, ltb-false, lt-ltb, le-ltb}
-use lib.ListN.{length, drop, length-append}
+use lib.ListN.{length, take, drop, get_or, length-append, length-take, length-drop, take-append-drop}
+use lib.Seq.{take_all, drop-drop}
+use Rattle.lists.specs.Prefix.{take_more, drop_more}
+use Rattle.std.proofs.Common.{Some, None}
 use Rattle.text.specs.Text.{glyph, glyphs, word_text}
-use Rattle.text.specs.Read.{WordAs, ValueAs, FigureAs}
+use Rattle.text.specs.Read.{WordAs, Got, Any, ValueAs}
 use Rattle.lists.specs.Parts.{head-same, parts_same}
-use Rattle.text.proofs.Spelt.{Spelt, spelt-append, begun}
-use Rattle.text.proofs.Decimals.{missing, found, never}
-
-sixteens : (n : ℕ) → (16 * (n / 16) + n % 16 ≡ n) × (n % 16 < 16)
-sixteens n = (div-add-mod n 16, mod-lt n (omega arith))
+use Rattle.text.proofs.Spelt.{Spelt, spelt-append, begun, none-here}
+use Rattle.text.proofs.Once.{read-none, read-some}
 
 pub glyph-low : (d : ℕ) → d < 10 → glyph d ≡ 48 + d
 glyph-low d h = rw (lt-ltb d 10 h)
@@ -34,20 +33,6 @@ glyph-same c d h k e = by (ltb c 10) refl (ltb d 10) refl
     by false p true q = let f : 55 + c ≡ 48 + d = rw (p, q) at e in let x : d < 10 = ltb-true _ _ q in let y : 10 ≤ c = ltb-false _ _ p in omega arith
     by false p false q = let f : 55 + c ≡ 55 + d = rw (p, q) at e in omega arith
 
--- a byte as a digit
-pub value_low : (x : ℕ) → 48 ≤ x → x ≤ 57 → ValueAs 16 glyph x (x - 48)
-value_low x h k = record { yes = λ _. let q = glyph-low (x - 48) (omega arith) in omega arith; no = λ z. let w : ⊥ = omega arith in absurd w }
-
-pub value-high : (x : ℕ) → 65 ≤ x → x ≤ 70 → ValueAs 16 glyph x (x - 65 + 10)
-value-high x h k = record { yes = λ _. let q = glyph-high (x - 65 + 10) (omega arith) in omega arith; no = λ z. let w : ⊥ = omega arith in absurd w }
-
-pub value_none : (x : ℕ) → ((48 ≤ x) → (x ≤ 57) → ⊥) → ((65 ≤ x) → (x ≤ 70) → ⊥) → ValueAs 16 glyph x 16
-value_none x f g = record { yes = λ z. let w : ⊥ = omega arith in absurd w; no = λ _ d s e. by d s e (ltb d 10) refl }
-  where
-    by : (d : ℕ) → d < 16 → x ≡ glyph d → (b : Bool) → ltb d 10 ≡ b → ⊥
-    by d s e true p = let h = ltb-true _ _ p in let q = glyph-low d h in f (omega arith) (omega arith)
-    by d s e false p = let h = ltb-false _ _ p in let q = glyph-high d h in g (omega arith) (omega arith)
-
 pub glyphs-length : (k n : ℕ) → length (glyphs k n) ≡ k
 glyphs-length zero n = refl
 glyphs-length (suc k) n = let ih = glyphs-length k (n / 16) in rw length-append (omega arith)
@@ -56,12 +41,11 @@ spelt-glyphs : (k n : ℕ) → Spelt 16 glyph (glyphs k n)
 spelt-glyphs zero n = tt
 spelt-glyphs (suc k) n =
     spelt-append 16 glyph (glyphs k (n / 16)) (glyph (n % 16) ∷ []) (spelt-glyphs k (n / 16))
-    (record { value = n % 16; small = (sixteens n).1; is = refl }, tt)
+    (record { value = n % 16; small = omega arith; is = refl }, tt)
 
 -- one more digit
 pub glyphs-more : (k v d : ℕ) → d < 16 → glyphs (suc k) (16 * v + d) ≡ glyphs k v ++ (glyph d ∷ [])
 glyphs-more k v d h =
-    let t = sixteens (16 * v + d) in
     let q : (16 * v + d) / 16 ≡ v = omega arith in
     let m : (16 * v + d) % 16 ≡ d = omega arith in
     rw (q, m)
@@ -83,58 +67,72 @@ room_small i h = room-mono (suc i) 8 (omega arith)
 pub glyphs-same : (k v w : ℕ) → v < room k → w < room k → glyphs k v ≡ glyphs k w → v ≡ w
 glyphs-same zero v w hv hw e = omega arith
 glyphs-same (suc k) v w hv hw e =
-    let s = sixteens v in
-    let t = sixteens w in
     let p = parts_same (glyphs k (v / 16)) (glyphs k (w / 16)) (glyph (v % 16) ∷ []) (glyph (w % 16) ∷ []) (glyphs-length k (v / 16) ∙ sym (glyphs-length k (w / 16))) e in
     let q = glyphs-same k (v / 16) (w / 16) (omega arith) (omega arith) p.0 in
-    let r = glyph-same (v % 16) (w % 16) s.1 t.1 (head-same p.1) in
+    let r = glyph-same (v % 16) (w % 16) (omega arith) (omega arith) (head-same p.1) in
     omega arith
 
+-- the first i digits were read
+pub record Spelling (digits : List ℕ) (value i : ℕ) : Type 0 where
+  pub front : take i digits ≡ glyphs i value
+  pub small : value < room i
+
+pub spelling-none : (digits : List ℕ) → Spelling digits 0 0
+spelling-none digits = record { front = refl; small = omega arith }
+
+pub spelling-more : (digits : List ℕ) (value i d : ℕ) → i < length digits → Spelling digits value i → d < 16 → get_or digits i 0 ≡ glyph d
+    → Spelling digits (16 * value + d) (i + 1)
+spelling-more digits value i d h s k e =
+    let r : room (suc i) ≡ 16 * room i = refl in
+    let b = s.small in
+    let q : take (i + 1) digits ≡ take i digits ++ (get_or digits i 0 ∷ []) = take_more digits i 0 h in
+    let f : take (i + 1) digits ≡ glyphs (suc i) (16 * value + d) =
+    q ∙ ap (λ (x : ℕ). take i digits ++ (x ∷ [])) e ∙ ap (λ (t : List ℕ). t ++ (glyph d ∷ [])) s.front ∙ sym (glyphs-more i value d k) in
+    rw (add-one i) (record { front = rw (add-one i) at f; small = omega arith })
+
 module _ (l : List ℕ) (at : ℕ) where
-  none : ((v : ℕ) (rest : List ℕ) → at ≤ length l → drop at l ≡ word_text v ++ rest → ⊥) → WordAs l at (missing at)
-  none f = record { yes = λ e. never false e refl; no = λ _. (refl, refl); only = λ v rest i _ _ e. absurd (f v rest i e) }
+  none : ((v next : ℕ) → Got word_text (λ v. v < 0x1_0000_0000) Any l at v next → ⊥) → WordAs l at None
+  none = read-none word_text (λ v. v < 0x1_0000_0000) Any l at
 
-  pub word-beyond : length l < at → WordAs l at (missing at)
-  word-beyond h = none (λ v rest i e. omega arith)
+  pub word-short : length (drop at l) < 8 → WordAs l at None
+  unfolding word_text
+  word-short h = none (λ v next g.
+      let a = ap length g.stands.whole in
+      let b = length-append (glyphs 8 v) (drop next l) in
+      let c = glyphs-length 8 v in
+      omega arith)
 
-  -- the first i digits were read
-  pub record Spelling (value next i : ℕ) : Type 0 where
-    pub whole : drop at l ≡ glyphs i value ++ drop next l
-    pub small : value < room i
-    pub inside : next ≤ length l
-    pub begins : at ≤ length l
+  module _ (digits : List ℕ) (enough : 8 ≤ length (drop at l)) (cut : digits ≡ take 8 (drop at l)) where
+    size : length digits ≡ 8
+    size = ap length cut ∙ length-take 8 (drop at l) ∙ (omega arith)
 
-  pub spelling-none : at ≤ length l → Spelling 0 at 0
-  spelling-none h = record { whole = refl; small = omega arith; inside = h; begins = h }
+    whole : drop at l ≡ digits ++ drop 8 (drop at l)
+    whole = sym (take-append-drop 8 (drop at l)) ∙ ap (λ (t : List ℕ). t ++ drop 8 (drop at l)) (sym cut)
 
-  module _ (value next i d : ℕ) (s : Spelling value next i) (f : FigureAs 16 glyph l next d) where
-    pub spelling-more : d < 16 → Spelling (16 * value + d) (next + 1) (i + 1)
-    spelling-more h =
-        let j = f.inside h in
-        let r : room (suc i) ≡ 16 * room i = refl in
-        let b = s.small in
-        rw (add-one i) (record {
-          whole = s.whole ∙ ap (λ (t : List ℕ). glyphs i value ++ t) (f.yes h)
-              ∙ sym (append_assoc (glyphs i value) (glyph d ∷ []) (drop (next + 1) l))
-              ∙ ap (λ (t : List ℕ). t ++ drop (next + 1) l) (sym (glyphs-more i value d h));
-          small = omega arith;
-          inside = omega arith;
-          begins = s.begins;
-        })
-
-    pub word_none : i < 8 → 16 ≤ d → WordAs l at (missing at)
+    pub word_none : (value i : ℕ) → i < 8 → Spelling digits value i → ValueAs 16 glyph (get_or digits i 0) None → WordAs l at None
     unfolding word_text
-    word_none h k = none (λ v rest _ e.
+    word_none value i h s f = none (λ v next g.
+        let m = size in
         let a = glyphs-length 8 v in
         let b = glyphs-length i value in
-        begun 16 glyph (glyphs 8 v) (glyphs i value) rest (drop next l) (spelt-glyphs 8 v) (omega arith) (sym e ∙ s.whole) (f.no k))
+        let c = drop_more digits i 0 (omega arith) in
+        let rest : List ℕ = drop (i + 1) digits ++ drop 8 (drop at l) in
+        let parts : digits ≡ glyphs i value ++ (get_or digits i 0 ∷ drop (i + 1) digits) =
+        sym (take-append-drop i digits) ∙ ap (λ (t : List ℕ). t ++ drop i digits) s.front ∙ ap (λ (t : List ℕ). glyphs i value ++ t) c in
+        let e : glyphs 8 v ++ drop next l ≡ glyphs i value ++ (get_or digits i 0 ∷ rest) =
+        sym g.stands.whole ∙ whole ∙ ap (λ (t : List ℕ). t ++ drop 8 (drop at l)) parts ∙ append_assoc (glyphs i value) (get_or digits i 0 ∷ drop (i + 1) digits) (drop 8 (drop at l)) in
+        begun 16 glyph (glyphs 8 v) (glyphs i value) (drop next l) (get_or digits i 0 ∷ rest) (spelt-glyphs 8 v) (omega arith) e (none-here 16 glyph _ rest f))
 
-  pub word-done : (value next : ℕ) → Spelling value next 8 → WordAs l at (found value next)
-  unfolding word_text
-  word-done value next s = record {
-    yes = λ _. record { whole = s.whole; fits = s.small; ends = tt; inside = s.inside; begins = s.begins };
-    no = λ e. never true refl e;
-    only = λ v rest _ h _ e.
-        let p = parts_same (glyphs 8 value) (glyphs 8 v) (drop next l) rest (glyphs-length 8 value ∙ sym (glyphs-length 8 v)) (sym s.whole ∙ e) in
-        record { ok = refl; value = glyphs-same 8 value v s.small h p.0; left = p.1 };
-  }
+    pub word-done : (value : ℕ) → Spelling digits value 8 → WordAs l at (Some (value, at + 8))
+    unfolding word_text
+    word-done value s =
+        let m = size in
+        let r = length-drop at l in
+        let h : at + 8 ≤ length l = omega arith in
+        let f : digits ≡ glyphs 8 value = sym (take_all 8 digits (omega arith)) ∙ s.front in
+        let w : drop at l ≡ glyphs 8 value ++ drop (at + 8) l = whole ∙ ap (λ (t : List ℕ). t ++ drop 8 (drop at l)) f ∙ ap (λ (t : List ℕ). glyphs 8 value ++ t) (drop-drop 8 at l) in
+        read-some word_text (λ v. v < 0x1_0000_0000) Any l at value (at + 8)
+        (record { stands = record { whole = w; inside = h; begins = omega arith }; fits = s.small; ends = tt })
+        (λ v rest k _ e.
+        let p = parts_same (glyphs 8 value) (glyphs 8 v) (drop (at + 8) l) rest (glyphs-length 8 value ∙ sym (glyphs-length 8 v)) e in
+        (glyphs-same 8 value v s.small k p.0, p.1))

@@ -1,44 +1,55 @@
-use native.Mathlib.Omega.{arith}
-use Rattle.text.proofs.Decimals.{none_first, none-large, none_more, read_done, reading-first, reading-more}
+use mathlib.Core.Path.{refl, sym, ◌∙◌}
+use lib.ListN.{drop_of_length-le}
+use Rattle.lists.specs.Prefix.{drop_more}
+use Rattle.text.specs.Text.{figure}
+use Rattle.text.proofs.Spelt.{from-here, none-here, none-empty}
+use Rattle.text.proofs.Decimals.{none_first, none_end, none-large, none_more, read_done, reading-first, reading-more}
 use Rattle.text.proofs.decimal.Goals as goal
 
 -- `text::decimal` meets its contract: `Reading` holds of what was read, one digit more a turn.
 
-pub returns-then-first-gt9 : goal.returns-then-first-gt9
-returns-then-first-gt9 c = rw c.missing.ensures (none_first _ _ _ _ c.decimal_at-first.ensures (omega arith))
+pub returns-in_err-first : goal.returns-in_err-first
+returns-in_err-first c =
+    let s = from-here c.args.line.now _ c.args.at c.in_ok-get.ensures.lookup.0.2 in
+    rw c.from_residual-in_err-first.ensures (none_end _ _ _ (rw s at c.in_err-first.ensures.cases))
+
+pub returns-in_err-value : goal.returns-in_err-value
+returns-in_err-value c =
+    let s = sym (from-here c.args.line.now _ c.args.at c.in_ok-get.ensures.lookup.0.2) ∙ c.in_ok-first.ensures.cases.0 in
+    rw c.from_residual-in_err-value.ensures (none_first _ _ _ (rw s (none-here 10 figure _ _ c.in_err-value.ensures)))
 
 pub returns-then-value-most : goal.returns-then-value-most
-returns-then-value-most c = rw c.missing-then-value-most.ensures (none-large _ _ _ _ c.decimal_at-first.ensures (omega arith) (omega arith))
+returns-then-value-most c =
+    let s = sym (from-here c.args.line.now _ c.args.at c.in_ok-get.ensures.lookup.0.2) ∙ c.in_ok-first.ensures.cases.0 in
+    let d = c.in_ok-value.ensures.yes _ refl in
+    none-large _ _ _ _ _ d.0 (rw d.1 at s) c.if-value-most.true
 
-pub overflow_add-next : goal.overflow_add-next
-overflow_add-next c = omega (arith, c.decimal_at-first.ensures.inside (omega arith))
+pub loop-byte-init : goal.loop-byte-init
+loop-byte-init c =
+    let s = sym (from-here c.args.line.now _ c.args.at c.in_ok-get.ensures.lookup.0.2) ∙ c.in_ok-first.ensures.cases.0 in
+    let d = c.in_ok-value.ensures.yes _ refl in
+    reading-first _ _ _ _ _ d.0 (rw d.1 at s) c.if-value-most.false
 
-pub loop-d-init : goal.loop-d-init
-loop-d-init c = (reading-first _ _ _ _ c.decimal_at-first.ensures (omega arith) (omega arith), c.decimal_at-d.ensures)
+pub returns-in_default : goal.returns-in_default
+returns-in_default c =
+    let m = drop_more c.in_ok-first.rest.now c.loop-byte.byte-index 0 c.loop-byte-test.true in
+    read_done _ _ _ _ _ _ c.loop-byte.invariant (rw m (none-here 10 figure _ _ c.in_default.ensures))
 
-pub returns-then-not-grows : goal.returns-then-not-grows
-returns-then-not-grows c =
-    let i = c.loop-d.invariant in
-    let large = c.grows.ensures.no c.if-not-grows.true in
-    rw c.missing-then-not-grows.ensures (none_more _ _ _ _ _ _ i.0 i.1 (omega arith) large)
+pub returns-in_err-value-2 : goal.returns-in_err-value-2
+returns-in_err-value-2 c =
+    let m = drop_more c.in_ok-first.rest.now c.loop-byte.byte-index 0 c.loop-byte-test.true in
+    let d = c.in-Some.ensures.yes _ refl in
+    rw c.from_residual-in_err-value-2.ensures
+    (none_more _ _ _ _ _ _ _ d.0 (rw d.1 at (rw m at c.loop-byte.invariant)) c.in_err-value-2.ensures)
 
-pub overflow_mul-value : goal.overflow_mul-value
-overflow_mul-value c = omega (arith, c.grows.ensures.yes c.if-not-grows.false)
-
-pub overflow_add-value : goal.overflow_add-value
-overflow_add-value c = omega (arith, c.grows.ensures.yes c.if-not-grows.false)
-
-pub overflow_add-next-in-loop-d : goal.overflow_add-next-in-loop-d
-overflow_add-next-in-loop-d c = omega (arith, c.loop-d.invariant.1.inside (omega arith))
-
-pub loop-d-smaller : goal.loop-d-smaller
-loop-d-smaller c = omega (arith, c.loop-d.invariant.1.inside (omega arith))
-
-pub loop-d-preserved : goal.loop-d-preserved
-loop-d-preserved c =
-    let i = c.loop-d.invariant in
-    let g = c.grows.ensures.yes c.if-not-grows.false in
-    (reading-more _ _ _ _ _ _ i.0 i.1 (omega arith) g.0 g.1, c.decimal_at-d-in-loop-d.ensures)
+pub loop-byte-preserved : goal.loop-byte-preserved
+loop-byte-preserved c =
+    let m = drop_more c.in_ok-first.rest.now c.loop-byte.byte-index 0 c.loop-byte-test.true in
+    let d = c.in-Some.ensures.yes _ refl in
+    let g = c.in_ok-value-2.ensures in
+    rw g.1 (reading-more _ _ _ _ _ _ _ d.0 (rw d.1 at (rw m at c.loop-byte.invariant)) g.0.0 g.0.1)
 
 pub returns : goal.returns
-returns c = let i = c.loop-d.invariant in read_done _ _ _ _ _ _ i.0 i.1 c.loop-d-test.false
+returns c =
+    let e = drop_of_length-le c.in_ok-first.rest.now {i = c.loop-byte.byte-index} c.loop-byte-test.false in
+    read_done _ _ _ _ _ _ c.loop-byte.invariant (rw e (none-empty 10 figure))

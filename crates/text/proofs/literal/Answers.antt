@@ -1,23 +1,21 @@
-use native.Mathlib.Omega.{arith}
-use Rattle.text.proofs.Literals.{literal-beyond, literal-short, literal-other, literal-done, met-none, met-more}
+use mathlib.Core.Bool.{true, false}
+use mathlib.Core.Path.{◌≡◌, refl}
+use Rattle.std.proofs.lemmas.Slice.Eq.{starts_is}
+use Rattle.std.proofs.lemmas.Bool.Decides.{Decides-eqb}
+use Rattle.text.proofs.Spelt.{from-here}
+use Rattle.text.proofs.Literals.{literal-none, literal-some}
 use Rattle.text.proofs.literal.Goals as goal
 
--- `text::literal` meets its contract: `Met` holds of the bytes that were compared.
+-- `text::literal` meets its contract: the rest of the line starts with the bytes or not.
 
-pub returns-then-at-line : goal.returns-then-at-line
-returns-then-at-line c = rw c.missing.ensures (literal-beyond _ _ _ (omega arith))
-
-pub returns-then-wanted-line : goal.returns-then-wanted-line
-returns-then-wanted-line c = rw c.missing-then-wanted-line.ensures (literal-short _ _ _ (omega arith))
-
-pub loop-i-init : goal.loop-i-init
-loop-i-init c = met-none _ _ _ (omega arith)
-
-pub returns-then-line-next : goal.returns-then-line-next
-returns-then-line-next c = rw c.missing-then-line-next.ensures (literal-other _ _ _ _ _ c.loop-i.invariant c.loop-i-test.true c.if-line-next.true)
-
-pub loop-i-preserved : goal.loop-i-preserved
-loop-i-preserved c = met-more _ _ _ _ _ c.loop-i.invariant c.loop-i-test.true c.if-line-next.false
+pub returns-then-not-starts_with : goal.returns-then-not-starts_with
+returns-then-not-starts_with c =
+    let s = from-here c.args.line.now _ c.args.at c.in_ok-get.ensures.lookup.0.2 in
+    let p = starts_is Decides-eqb _ _ _ (rw s at c.if-not-starts_with.ensures.value) in
+    literal-none c.args.wanted.now c.args.line.now c.args.at (λ rest e. let z : false ≡ true = p.1 rest e in let y : ⊥ = cc in y)
 
 pub returns : goal.returns
-returns c = literal-done _ _ _ _ _ c.loop-i.invariant c.loop-i-test.false
+returns c =
+    let s = from-here c.args.line.now _ c.args.at c.in_ok-get.ensures.lookup.0.2 in
+    let p = starts_is Decides-eqb _ _ _ (rw s at c.if-not-starts_with.ensures.value) in
+    literal-some c.args.wanted.now c.args.line.now c.args.at c.in_ok-get.ensures.lookup.0.0 (p.0 refl)

@@ -1,30 +1,43 @@
-use mathlib.Core.Path.{◌≡◌}
 use native.Mathlib.Omega.{arith}
-use Rattle.text.proofs.Words.{word-beyond, word_none, word-done, spelling-none, spelling-more, room_small}
+use mathlib.Core.Path.{◌≡◌, refl}
+use lib.ListN.{length, take, drop}
+use Prim.Native.Nat.{◌≤◌}
+use Rattle.text.proofs.Spelt.{from-here}
+use Rattle.text.proofs.Words.{word-short, word_none, word-done, spelling-none, spelling-more, room_small}
 use Rattle.text.proofs.word.Goals as goal
 
 -- `text::word` meets its contract: `Spelling` holds of what was read, one digit more a turn.
 
-pub returns-then-at-line : goal.returns-then-at-line
-returns-then-at-line c = rw c.missing.ensures (word-beyond _ _ (omega arith))
+pub returns-in_err-digits : goal.returns-in_err-digits
+returns-in_err-digits c =
+    let s = from-here c.args.line.now _ c.args.at c.in_ok-get.ensures.lookup.0.2 in
+    rw c.from_residual-in_err-digits.ensures (word-short _ _ (rw s at c.in_err-digits.ensures.cases))
 
-pub loop-i-init : goal.loop-i-init
-loop-i-init c = (spelling-none _ _ (omega arith), omega arith)
+pub loop-byte-init : goal.loop-byte-init
+loop-byte-init c = spelling-none _
 
-pub returns-then-d-gt15 : goal.returns-then-d-gt15
-returns-then-d-gt15 c = rw c.missing-then-d-gt15.ensures (word_none _ _ _ _ _ _ c.loop-i.invariant.0 c.hex_at-d.ensures (omega arith) (omega arith))
+pub returns-in_err-d : goal.returns-in_err-d
+returns-in_err-d c =
+    let s = from-here c.args.line.now _ c.args.at c.in_ok-get.ensures.lookup.0.2 in
+    let d = c.in_ok-digits.ensures.cases in
+    let k : c.in_ok-digits.digits.now ≡ take 8 (drop c.args.at c.args.line.now) = rw s at d.same in
+    let h : 8 ≤ length (drop c.args.at c.args.line.now) = rw s at d.enough in
+    rw c.from_residual-in_err-d.ensures (word_none _ _ _ h k _ _ (omega arith) c.loop-byte.invariant c.in_err-d.ensures)
 
 pub overflow_mul-value : goal.overflow_mul-value
-overflow_mul-value c = omega (arith, c.loop-i.invariant.0.small, room_small _ c.loop-i-test.true)
+overflow_mul-value c = omega (arith, c.loop-byte.invariant.small, room_small _ c.loop-byte-test.true)
 
 pub overflow_add-value : goal.overflow_add-value
-overflow_add-value c = omega (arith, c.loop-i.invariant.0.small, room_small _ c.loop-i-test.true)
+overflow_add-value c = omega (arith, c.loop-byte.invariant.small, room_small _ c.loop-byte-test.true, c.in_ok-d.ensures.yes _ refl)
 
-pub overflow_add-next : goal.overflow_add-next
-overflow_add-next c = omega (arith, c.hex_at-d.ensures.inside (omega arith))
-
-pub loop-i-preserved : goal.loop-i-preserved
-loop-i-preserved c = (spelling-more _ _ _ _ _ _ c.loop-i.invariant.0 c.hex_at-d.ensures (omega arith), omega arith)
+pub loop-byte-preserved : goal.loop-byte-preserved
+loop-byte-preserved c = let d = c.in_ok-d.ensures.yes _ refl in spelling-more _ _ _ _ (omega arith) c.loop-byte.invariant d.0 d.1
 
 pub returns : goal.returns
-returns c = let e : c.loop-i.i ≡ 8 = omega arith in word-done _ _ _ _ (rw e at c.loop-i.invariant.0)
+returns c =
+    let s = from-here c.args.line.now _ c.args.at c.in_ok-get.ensures.lookup.0.2 in
+    let d = c.in_ok-digits.ensures.cases in
+    let k : c.in_ok-digits.digits.now ≡ take 8 (drop c.args.at c.args.line.now) = rw s at d.same in
+    let h : 8 ≤ length (drop c.args.at c.args.line.now) = rw s at d.enough in
+    let e : c.loop-byte.byte-index ≡ 8 = omega arith in
+    word-done _ _ _ h k _ (rw e at c.loop-byte.invariant)
