@@ -1,33 +1,27 @@
 -- From the parts of a voice or a state to the whole: what its numbers stand for, and whether they stand for a state.
-use Rattle.std.specs.Prelude.{Some, None}
 use mathlib.Core.Path.{◌≡◌, refl, ap, sym, ◌∙◌}
 use mathlib.Core.Bool.{Bool, true, false, ◌&&◌}
 use mathlib.Core.List.{List, [], ◌∷◌, map, map-map}
+use Prim.Native.Nat.{ℕ}
+use Rattle.std.specs.Int.{from_bool}
 use lib.Dec.{leb}
-use lib.Ieee.{Float}
 use lib.ListN.{take}
 use Rattle.lists.specs.Choose.{both}
 use Rattle.lists.specs.All.{all, all_map}
-use Rattle.stream.specs.declared.UnisonCopy.{UnisonCopy}
 use Rattle.voice.specs.View.{Seen, seen}
 use Rattle.voice.specs.declared.Voice.{Voice}
 use Rattle.table.specs.View.{seen_in, voices_of, in_room}
 use Rattle.instrument.specs.View.{roomy, counted}
 use Rattle.instrument.specs.declared.Instrument.{Instrument}
-use Rattle.wire.specs.Reads.{copy_of, cutoff_of, copy_with, copy_numbered, voice_of, seen_of, mode_numbered, voice_numbered, numbered}
-use Rattle.wire.specs.declared.HostCopy.{HostCopy}
+use Rattle.wire.specs.Reads.{flag_of, voice_of, seen_of, mode_numbered, voice_numbered, numbered}
 use Rattle.wire.specs.declared.HostVoice.{HostVoice}
 use Rattle.wire.specs.declared.HostState.{HostState}
 use Rattle.wire.proofs.Loops.{all_alike}
 
-module _ (c : UnisonCopy) (r : HostCopy) (x : Float) where
-  pub copy-unset : c.cutoff ≡ None → r ≡ copy_with c 0 x → (copy_of r ≡ c) × (copy_numbered r ≡ true)
-  unfolding copy_of cutoff_of copy_with
-  copy-unset e q = rw (q, ← e) (refl, refl)
-
-  pub copy-set : c.cutoff ≡ Some x → r ≡ copy_with c 1 x → (copy_of r ≡ c) × (copy_numbered r ≡ true)
-  unfolding copy_of cutoff_of copy_with
-  copy-set e q = rw (q, ← e) (refl, refl)
+-- the number of a yes or no
+pub flag_back : (b : Bool) (n : ℕ) → n ≡ from_bool b → (flag_of n ≡ b) × (leb n 1 ≡ true)
+flag_back true n e = rw e (refl, refl)
+flag_back false n e = rw e (refl, refl)
 
 -- tests that pass after a first one say no more than it does
 pub first_alone : (a b c d e : Bool) → b ≡ true → c ≡ true → d ≡ true → e ≡ true → (a && b && c && d && e) ≡ a

@@ -1,6 +1,6 @@
 -- What the numbers of a host's state stand for in the model (document 01, "Well formed", last sentence: a state is read up to its counts),
 -- and which numbers stand for a state at all.
-use Rattle.std.specs.Prelude.{Bool, true, false, not, ◌&&◌, cond, ◌≡◌, map, ℕ, leb, eqb, Float, take, Option, Some, None}
+use Rattle.std.specs.Prelude.{Bool, true, false, Option, Some, None, Result, MatchResult, not, ◌&&◌, cond, ◌≡◌, map, ℕ, leb, eqb, Float, take}
 use Rattle.lists.specs.All.{all}
 use Rattle.envelope.specs.declared.EnvGen.{EnvGen}
 use Rattle.envelope.specs.declared.Stage.{Stage}
@@ -13,6 +13,8 @@ use Rattle.model.specs.Types as model
 use Rattle.voice.specs.View.{Seen}
 use Rattle.instrument.specs.View.{view, counted}
 use Rattle.instrument.specs.declared.Instrument.{Instrument}
+use Rattle.outcome.specs.declared.Refusal.{Refusal}
+use Rattle.outcome.specs.declared.Refusal.TheVariants.{Malformed}
 use Rattle.wire.specs.declared.HostDesign.{HostDesign}
 use Rattle.wire.specs.declared.HostEnv.{HostEnv}
 use Rattle.wire.specs.declared.HostCopy.{HostCopy}
@@ -62,10 +64,6 @@ env_of e = record { a = e.a; d = e.d; s = e.s; r = e.r; sr = e.sr; stage = stage
 -- a copy with the cutoff last set (document 01, "Copies, Plan and Mix")
 unfoldable pub copy_of : HostCopy → UnisonCopy
 copy_of c = record { l = c.l; r = c.r; pitch = c.pitch; pitch_target = c.pitch_target; glide = c.glide; bend = c.bend; cutoff = cutoff_of c }
-
--- a copy's numbers, with those that stand for its cutoff
-unfoldable pub copy_with : UnisonCopy → ℕ → Float → HostCopy
-copy_with c set cutoff = record { l = c.l; r = c.r; pitch = c.pitch; pitch_target = c.pitch_target; glide = c.glide; bend = c.bend; cutoff_set = set; cutoff = cutoff }
 
 -- a voice with its copies up to their count
 unfoldable pub voice_of : HostVoice → model.Voice
@@ -125,6 +123,10 @@ numbered h = leb h.voice_count 64 && leb h.held_count 256 && mode_numbered h.des
 pub record ReadFrom (h : HostState) (r : Instrument) : Type 0 where
   pub view : view r ≡ model_of h
   pub counted : numbered h ≡ true → counted r ≡ true
+
+-- whole numbers are read as `ReadFrom` says, others are refused as a state that is not well formed (document 01, refusal 1)
+abbrev pub ReadAs : HostState → Result Instrument Refusal → Type 0
+ReadAs h r = MatchResult r (λ s. (numbered h ≡ true) × ReadFrom h s) (λ e. (numbered h ≡ false) × (e ≡ Malformed))
 
 -- what is written of a state: numbers that stand for it, exactly where its counts are within their arrays
 pub record WrittenFrom (s : Instrument) (r : HostState) : Type 0 where

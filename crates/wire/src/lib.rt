@@ -3,18 +3,17 @@
 
 #![tactic(auto)]
 
-ghost use Rattle.std.specs.Prelude.{◌≡◌, map, take};
+ghost use Rattle.std.specs.Prelude.{◌≡◌, ◌<◌, take};
+ghost use Rattle.std.specs.List.{AllZip};
 ghost use Rattle.voice.specs.View.{seen};
-ghost use Rattle.table.specs.View.{seen_first};
-ghost use Rattle.held.specs.View.{held_first};
-ghost use Rattle.wire.specs.Reads.{mode_of, stage_of, design_of, env_of, copy_of, seen_of, ReadFrom};
+ghost use Rattle.wire.specs.Reads.{mode_of, stage_of, design_of, env_of, copy_of, seen_of, ReadAs};
 
 use design::{Adsr, InstrumentDesign, Modulation, PlayMode};
 use envelope::{EnvGen, Stage};
 use held::Held;
 use instrument::Instrument;
-use lists::smaller;
 use note::Note;
+use outcome::Refusal;
 use stream::UnisonCopy;
 use table::Table;
 use voice::Voice;
@@ -106,6 +105,8 @@ pub struct HostState {
     pub frames: usize,
 }
 
+// A mode is the number's alone: neither type is this crate's, so no `From` can stand here.
+#[tactic(auto, unfolding(crate::specs::Reads::mode_of))]
 fn mode_of(number: u32) -> PlayMode
     ensures { result ≡ mode_of number }
 {
@@ -116,6 +117,8 @@ fn mode_of(number: u32) -> PlayMode
     }
 }
 
+// As with a mode, neither type is this crate's.
+#[tactic(auto, unfolding(crate::specs::Reads::stage_of))]
 fn stage_of(number: u32) -> Stage
     ensures { result ≡ stage_of number }
 {
@@ -128,150 +131,138 @@ fn stage_of(number: u32) -> Stage
     }
 }
 
-pub fn read_design(d: HostDesign) -> InstrumentDesign
-    ensures { result ≡ design_of d }
+// The first `count` items, each made into another. What stands behind them means nothing.
+fn first_made<A: Copy, B: Copy, const N: usize, F: Fn(A) -> B>(
+    items: &[A; N],
+    count: usize,
+    make: F,
+) -> [B; N]
+    requires some { 0 < N }
+    requires callable { F.IsAlwaysCallable make }
+    ensures { AllZip (F.post make) (take count items.now) (take count result) }
 {
-    InstrumentDesign {
-        sample_rate: d.sample_rate,
-        max_voices: d.max_voices,
-        mode: mode_of(d.mode),
-        unison: d.unison,
-        unison_width: d.unison_width,
-        amp: Adsr {
-            a: d.a,
-            d: d.d,
-            s: d.s,
-            r: d.r,
-        },
-        glide: d.glide,
-        modulation: Modulation {
-            vibrato_rate: d.vibrato_rate,
-            vibrato_cents: d.vibrato_cents,
-            tremolo_rate: d.tremolo_rate,
-            tremolo_depth: d.tremolo_depth,
-            filter_rate: d.filter_rate,
-            filter_octaves: d.filter_octaves,
-        },
+    let mut made = [make(items[0]); N];
+    for j in 0..count.min(N) {
+        made[j] = make(items[j]);
+    }
+    made
+}
+
+impl From<HostDesign> for InstrumentDesign {
+    ghost from_gives = { λ d r. r ≡ design_of d };
+
+    #[tactic(auto, unfolding(crate::specs::Reads::design_of))]
+    fn from(d: HostDesign) -> InstrumentDesign {
+        InstrumentDesign {
+            sample_rate: d.sample_rate,
+            max_voices: d.max_voices,
+            mode: mode_of(d.mode),
+            unison: d.unison,
+            unison_width: d.unison_width,
+            amp: Adsr {
+                a: d.a,
+                d: d.d,
+                s: d.s,
+                r: d.r,
+            },
+            glide: d.glide,
+            modulation: Modulation {
+                vibrato_rate: d.vibrato_rate,
+                vibrato_cents: d.vibrato_cents,
+                tremolo_rate: d.tremolo_rate,
+                tremolo_depth: d.tremolo_depth,
+                filter_rate: d.filter_rate,
+                filter_octaves: d.filter_octaves,
+            },
+        }
     }
 }
 
-pub fn read_env(e: HostEnv) -> EnvGen
-    ensures { result ≡ env_of e }
-{
-    EnvGen {
-        a: e.a,
-        d: e.d,
-        s: e.s,
-        r: e.r,
-        sr: e.sr,
-        stage: stage_of(e.stage),
-        level: e.level,
-        rel_from: e.rel_from,
+impl From<HostEnv> for EnvGen {
+    ghost from_gives = { λ e r. r ≡ env_of e };
+
+    #[tactic(auto, unfolding(crate::specs::Reads::env_of))]
+    fn from(e: HostEnv) -> EnvGen {
+        EnvGen {
+            a: e.a,
+            d: e.d,
+            s: e.s,
+            r: e.r,
+            sr: e.sr,
+            stage: stage_of(e.stage),
+            level: e.level,
+            rel_from: e.rel_from,
+        }
     }
 }
 
-fn read_copy(c: HostCopy) -> UnisonCopy
-    ensures { result ≡ copy_of c }
-{
-    let mut cutoff = None;
-    if c.cutoff_set != 0 {
-        cutoff = Some(c.cutoff);
-    }
-    UnisonCopy {
-        l: c.l,
-        r: c.r,
-        pitch: c.pitch,
-        pitch_target: c.pitch_target,
-        glide: c.glide,
-        bend: c.bend,
-        cutoff,
+impl From<HostCopy> for UnisonCopy {
+    ghost from_gives = { λ c r. r ≡ copy_of c };
+
+    #[tactic(auto, unfolding(crate::specs::Reads::copy_of, crate::specs::Reads::cutoff_of))]
+    fn from(c: HostCopy) -> UnisonCopy {
+        let mut cutoff = None;
+        if c.cutoff_set != 0 {
+            cutoff = Some(c.cutoff);
+        }
+        UnisonCopy {
+            l: c.l,
+            r: c.r,
+            pitch: c.pitch,
+            pitch_target: c.pitch_target,
+            glide: c.glide,
+            bend: c.bend,
+            cutoff,
+        }
     }
 }
 
-fn read_copies(copies: [HostCopy; 8], count: usize) -> [UnisonCopy; 8]
-    ensures { take count result ≡ map copy_of (take count copies) }
-{
-    let first = read_copy(copies[0]);
-    let mut cs = [first; 8];
-    let n = smaller(count, 8);
-    let mut j: usize = 0;
-    while j < n {
-        cs[j] = read_copy(copies[j]);
-        j += 1;
-    }
-    cs
-}
+impl From<HostVoice> for Voice {
+    ghost from_gives = { λ h v. seen v ≡ seen_of h };
 
-fn read_voice(v: HostVoice) -> Voice
-    ensures { seen result ≡ seen_of v }
-{
-    let copies = v.copies;
-    let env = v.env;
-    Voice {
-        handle: v.handle,
-        note: Note(v.note),
-        copies: read_copies(copies, v.copy_count),
-        copy_count: v.copy_count,
-        built_hz: v.built_hz,
-        env: read_env(env),
-        gain: v.gain,
-        releasing: v.releasing != 0,
-        sustained: v.sustained != 0,
+    fn from(h: HostVoice) -> Voice {
+        Voice {
+            handle: h.handle,
+            note: Note(h.note),
+            copies: first_made(&h.copies, h.copy_count, UnisonCopy::from),
+            copy_count: h.copy_count,
+            built_hz: h.built_hz,
+            env: h.env.into(),
+            gain: h.gain,
+            releasing: h.releasing != 0,
+            sustained: h.sustained != 0,
+        }
     }
 }
 
-fn read_voices(voices: [HostVoice; 64], count: usize) -> [Voice; 64]
-    ensures { seen_first count result ≡ map seen_of (take count voices) }
-{
-    let first = read_voice(voices[0]);
-    let mut vs = [first; 64];
-    let n = smaller(count, 64);
-    let mut i: usize = 0;
-    while i < n {
-        vs[i] = read_voice(voices[i]);
-        i += 1;
-    }
-    vs
-}
+impl TryFrom<HostState> for Instrument {
+    type Error = Refusal;
 
-fn read_held(held: [u8; 256], count: usize) -> [Note; 256]
-    ensures { held_first count result ≡ take count held }
-{
-    let mut notes = [Note(0); 256];
-    let n = smaller(count, 256);
-    let mut i: usize = 0;
-    while i < n {
-        notes[i] = Note(held[i]);
-        i += 1;
-    }
-    notes
-}
+    ghost try_from_gives = { ReadAs };
 
-// The state that the numbers stand for; whether they stand for one is `numbered`.
-pub fn read(h: HostState) -> Instrument
-    ensures { ReadFrom h result }
-{
-    let design = h.design;
-    let voices = h.voices;
-    let held = h.held;
-    Instrument {
-        design: read_design(design),
-        table: Table {
-            voices: read_voices(voices, h.voice_count),
-            count: h.voice_count,
-        },
-        next_handle: h.next_handle,
-        sustain: h.sustain != 0,
-        bend: h.bend,
-        brightness: h.brightness,
-        vib_phase: h.vib_phase,
-        flt_phase: h.flt_phase,
-        trem_phase: h.trem_phase,
-        trem: h.trem,
-        held: Held {
-            notes: read_held(held, h.held_count),
-            count: h.held_count,
-        },
-        frames: h.frames,
+    fn try_from(h: HostState) -> Result<Instrument, Refusal> {
+        if !h.is_numbered() {
+            return Err(Refusal::Malformed);
+        }
+        Ok(Instrument {
+            design: h.design.into(),
+            table: Table {
+                voices: first_made(&h.voices, h.voice_count, Voice::from),
+                count: h.voice_count,
+            },
+            next_handle: h.next_handle,
+            sustain: h.sustain != 0,
+            bend: h.bend,
+            brightness: h.brightness,
+            vib_phase: h.vib_phase,
+            flt_phase: h.flt_phase,
+            trem_phase: h.trem_phase,
+            trem: h.trem,
+            held: Held {
+                notes: first_made(&h.held, h.held_count, |note: u8| Note(note)),
+                count: h.held_count,
+            },
+            frames: h.frames,
+        })
     }
 }
