@@ -1,6 +1,6 @@
 -- What a call on a state promises: its reply, the next state through its view, and on a refusal the very state given
 -- (document 01, "What a call replies").
-use Rattle.std.specs.Prelude.{◌≡◌, Bool, true, false, ◌&&◌, cond, List, ℕ, eqb, Float, Option, None, Some, Result, Ok, Err}
+use Rattle.std.specs.Prelude.{◌≡◌, Bool, true, false, ◌&&◌, cond, List, ℕ, eqb, Float, unwrap_or, Result, Ok, Err}
 use Rattle.outcome.specs.declared.Outcome.{Outcome}
 use Rattle.outcome.specs.declared.Refusal.{Refusal}
 use Rattle.outcome.specs.declared.Refusal.TheVariants.{Malformed, OutsideLimits, NotFinite, BlockOpen, NoHandleLeft}
@@ -22,14 +22,9 @@ use Rattle.instrument.specs.declared.Reply.TheVariants.{Started, Silent, Kept, O
 abbrev pub Called : Type 0
 Called = Outcome Instrument Reply
 
--- the number of a handle, 0 for none
-abbrev pub named : Option ℕ → ℕ
-named None = 0
-named (Some handle) = handle
-
--- document 01's reply, with its number and values, for each case
+-- document 01's reply, with its number and values, for each case; 0 for no handle
 abbrev pub reply_of : Result Reply Refusal → model.Reply
-reply_of (Ok (Started handle killed taken)) = model.Reply.started handle (named killed) (named taken)
+reply_of (Ok (Started handle killed taken)) = model.Reply.started handle (unwrap_or killed 0) (unwrap_or taken 0)
 reply_of (Ok (Silent handle)) = model.Reply.silent handle
 reply_of (Ok (Kept handle)) = model.Reply.kept handle
 reply_of (Ok (Off found)) = model.Reply.off found

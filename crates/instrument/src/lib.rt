@@ -2,7 +2,7 @@
 
 #![tactic(auto)]
 
-ghost use Rattle.std.specs.Prelude.{◌≡◌, true, ◌<◌, ◌≤◌, ◌*◌, ◌==◌, Ok};
+ghost use Rattle.std.specs.Prelude.{◌≡◌, true, ◌<◌, ◌≤◌, ◌*◌, ◌==◌, Ok, unwrap_or};
 ghost use Rattle.design.specs.Accepted.{is_accepted, copies_of};
 ghost use Rattle.model.specs.Types.{Control, Call};
 ghost use Rattle.model.specs.Formed.{frames_fit, block_fits};
@@ -12,7 +12,7 @@ ghost use Rattle.model.specs.Queries.{is_active, active_voices};
 ghost use Rattle.design.specs.declared.PlayMode.TheVariants.{Mono};
 ghost use Rattle.model.specs.Notes.{mono_off, velocity_of, new_note, mono_on, new_handle_in};
 ghost use Rattle.instrument.specs.View.{view, counted, numbers_fit, formed as formed_state};
-ghost use Rattle.instrument.specs.Calls.{named, StartAs, last_handle, reason_of, barred_in, barred_by, Gives, OnAs, CallAs};
+ghost use Rattle.instrument.specs.Calls.{StartAs, last_handle, reason_of, barred_in, barred_by, Gives, OnAs, CallAs};
 ghost use Rattle.instrument.specs.Levels.{StartLevels};
 ghost use Rattle.instrument.specs.Asked.{active_of, voices_of, asked_of, VoiceAs};
 
@@ -232,7 +232,7 @@ fn barred(formed: bool, frames: usize) -> Result<(), Refusal>
 
 // A handle, where 0 stands for none.
 fn named(number: u64) -> Option<u64>
-    ensures { named result ≡ number }
+    ensures { unwrap_or result 0 ≡ number }
 {
     if number == 0 { None } else { Some(number) }
 }
