@@ -1,4 +1,5 @@
 -- From the checks and the parts of a call to what the call promises.
+use Rattle.std.specs.Prelude.{Result, Ok, Err}
 use mathlib.Core.Path.{◌≡◌, refl, ap, sym, ◌∙◌}
 use mathlib.Core.Bool.{Bool, true, false}
 use mathlib.Core.List.{List, map}
@@ -9,6 +10,20 @@ use lib.Dec.{leb, eqb}
 use lib.Ieee.{Float}
 use lib.ListN.{length, length-map, length-set, length-take}
 use Rattle.lists.specs.Choose.{both, cond-true, cond-false}
+use Rattle.outcome.specs.declared.Refusal.{Refusal}
+use Rattle.outcome.specs.declared.Refusal.TheVariants.{
+  Malformed,
+  OutsideLimits,
+  NotFinite,
+  Frames,
+  BlockOpen,
+  NoBlock,
+  LentLength,
+  NoHandleLeft,
+  NoSuchPlace,
+  CutShort,
+}
+use Rattle.outcome.specs.Numbers.{number_of}
 use Rattle.design.specs.declared.PlayMode.{PlayMode}
 use Rattle.design.specs.declared.PlayMode.TheVariants.{Poly, Mono}
 use Rattle.model.specs.Types as M
@@ -24,9 +39,8 @@ use Rattle.table.proofs.Changes.{map-seen, changed-seen, room-map, room-set}
 use Rattle.held.specs.View.{held_in}
 use Rattle.held.specs.declared.Held.{Held}
 use Rattle.instrument.specs.View.{view, roomy, counted, formed}
-use Rattle.instrument.specs.Calls.{reply_of, refusal_of, reply_to, CallAs, Gives, answered_as, refused_as, barred_in, barred_by, placed_as, tuned_as, StepAs}
+use Rattle.instrument.specs.Calls.{Called, reply_of, refusal_of, reply_to, CallAs, Gives, answered_as, refused_as, barred_in, barred_by, placed_as, tuned_as, StepAs}
 use Rattle.instrument.specs.declared.Instrument.{Instrument}
-use Rattle.instrument.specs.declared.Outcome.{Outcome}
 use Rattle.instrument.specs.declared.Reply.{Reply}
 
 -- ---- the play mode
@@ -36,11 +50,35 @@ pub is-poly : (m : PlayMode) → ((x : Bool) → m ≡ Mono x → ⊥) → m ≡
 is-poly Poly h = refl
 is-poly (Mono legato) h = absurd (h legato refl)
 
+-- ---- the numbers of refusals
+
+pub some-number : (r : Refusal) → 1 ≤ number_of r
+some-number Malformed = omega arith
+some-number OutsideLimits = omega arith
+some-number NotFinite = omega arith
+some-number Frames = omega arith
+some-number BlockOpen = omega arith
+some-number NoBlock = omega arith
+some-number LentLength = omega arith
+some-number NoHandleLeft = omega arith
+some-number NoSuchPlace = omega arith
+some-number CutShort = omega arith
+
+-- 0 where a check passes
+abbrev pub number_in : Result (Unit {0}) Refusal → ℕ
+number_in (Ok _) = 0
+number_in (Err refusal) = number_of refusal
+
+-- what is no Err
+pub passed : (x : Result (Unit {0}) Refusal) → ((r : Refusal) → x ≡ Err r → ⊥) → x ≡ Ok tt
+passed (Ok tt) h = refl
+passed (Err r) h = absurd (h r refl)
+
 -- ---- what bars a call
 
 -- by the answers of check 1 and of `barred`
-pub barred-by : (s : Instrument) (b : Bool) (n : ℕ) → b ≡ formed s → n ≡ barred_in b s.frames → n ≡ barred_by s
-barred-by s b n e f = f ∙ ap (λ (x : Bool). barred_in x s.frames) e
+pub barred-by : (s : Instrument) (b : Bool) (x : Result (Unit {0}) Refusal) → b ≡ formed s → x ≡ barred_in b s.frames → x ≡ barred_by s
+barred-by s b x e f = f ∙ ap (λ (y : Bool). barred_in y s.frames) e
 
 -- what not being barred says
 pub record Free (s : Instrument) : Type 0 where
@@ -49,26 +87,42 @@ pub record Free (s : Instrument) : Type 0 where
   pub well : well_formed (view s) ≡ true
   pub closed : s.frames ≡ 0
 
-pub free : (s : Instrument) → barred_by s ≡ 0 → Free s
+pub free : (s : Instrument) → barred_by s ≡ Ok tt → Free s
 unfolding barred_in formed
 free s e = by (formed s) refl (eqb s.frames 0) refl
   where
     by : (a : Bool) → formed s ≡ a → (b : Bool) → eqb s.frames 0 ≡ b → Free s
     by true p true q = let f = both (counted s) (well_formed (view s)) p in record { formed = p; counted = f.0; well = f.1; closed = eqb-true s.frames 0 q }
-    by true p false q = let z : ◌≡◌ {A = ℕ} 5 0 = rw (p, q) at e in let n : ⊥ = omega arith in absurd n
-    by false p b q = let z : ◌≡◌ {A = ℕ} 1 0 = rw p at e in let n : ⊥ = omega arith in absurd n
+    by true p false q = let z : ◌≡◌ {A = ℕ} 5 0 = ap number_in (rw (p, q) at e) in let n : ⊥ = omega arith in absurd n
+    by false p b q = let z : ◌≡◌ {A = ℕ} 1 0 = ap number_in (rw p at e) in let n : ⊥ = omega arith in absurd n
+
+-- by the answers again
+pub free-by : (s : Instrument) (b : Bool) (x : Result (Unit {0}) Refusal) → b ≡ formed s → x ≡ barred_in b s.frames → ((r : Refusal) → x ≡ Err r → ⊥) → Free s
+free-by s b x e f h = free s (sym (barred-by s b x e f) ∙ passed x h)
 
 module _ (s : Instrument) (c : M.Call) where
   -- a state that bars the call gives its number
-  pub bars : is_mix c ≡ false → (barred_by s ≡ 0 → ⊥) → refusal_of s c ≡ barred_by s
+  bars : is_mix c ≡ false → (barred_by s ≡ Ok tt → ⊥) → refusal_of s c ≡ number_in (barred_by s)
   unfolding barred_in refusal_of refusal formed block_open no_block view
   bars m n = by (counted s) refl (well_formed (view s)) refl (eqb s.frames 0) refl
     where
-      by : (a : Bool) → counted s ≡ a → (b : Bool) → well_formed (view s) ≡ b → (d : Bool) → eqb s.frames 0 ≡ d → refusal_of s c ≡ barred_by s
+      by : (a : Bool) → counted s ≡ a → (b : Bool) → well_formed (view s) ≡ b → (d : Bool) → eqb s.frames 0 ≡ d → refusal_of s c ≡ number_in (barred_by s)
       by true p true q true r = absurd (n (rw (p, q, r)))
       by true p true q false r = rw (p, q, r, m)
       by true p false q d r = rw (p, q)
       by false p b q d r = rw p
+
+  pub bar-number : (x : Result (Unit {0}) Refusal) (r : Refusal) → is_mix c ≡ false → x ≡ barred_by s → x ≡ Err r → refusal_of s c ≡ number_of r
+  bar-number x r m e w =
+      let l = some-number r in
+      bars m (λ k. let z : number_of r ≡ 0 = ap number_in (sym w ∙ e ∙ k) in omega arith) ∙ ap number_in (sym e ∙ w)
+
+  -- a check that gives the number of the call's refusal
+  pub check-number : (x : Result (Unit {0}) Refusal) (r : Refusal) → number_in x ≡ refusal_of s c → x ≡ Err r → refusal_of s c ≡ number_of r
+  check-number x r e w = sym e ∙ ap number_in w
+
+  pub check-passed : (x : Result (Unit {0}) Refusal) → number_in x ≡ refusal_of s c → ((r : Refusal) → x ≡ Err r → ⊥) → refusal_of s c ≡ 0
+  check-passed x e h = sym e ∙ ap number_in (passed x h)
 
   -- a free state refuses only for what the call itself brings
   pub unrefused : Free s → is_mix c ≡ false → frames_outside (view s) c ≡ false → length_wrong (view s) c ≡ false → handles_spent (view s) c ≡ false → refusal_of s c ≡ 0
@@ -101,12 +155,15 @@ module _ (s : Instrument) (c : M.Call) where
   unfolding refusal_of
   refusal-in e = sym (cond-true _ _ _ e)
 
-  pub refused-call : (n : ℕ) → refusal_of s c ≡ n → (n ≡ 0 → ⊥) → CallAs s c (refused_as s n)
+  pub refused-call : (r : Refusal) → refusal_of s c ≡ number_of r → StepAs s c (M.Reply.refused (number_of r)) s
   unfolding reply_to refusal_of
-  refused-call n e z = record { reply = by (counted s) refl; refused = λ _. refl; in_room = λ q. absurd (z (sym e ∙ q)); next = λ q. absurd (z (sym e ∙ q)) }
+  refused-call r e = record { reply = by (counted s) refl; refused = λ _. refl; in_room = λ q. absurd (some (sym e ∙ q)); next = λ q. absurd (some (sym e ∙ q)) }
     where
-      by : (b : Bool) → counted s ≡ b → M.Reply.refused n ≡ reply_to s c
-      by true p = step-refused n (refusal-in p ∙ e) z ∙ sym (cond-true _ _ _ p)
+      some : number_of r ≡ 0 → ⊥
+      some q = let l = some-number r in omega arith
+
+      by : (b : Bool) → counted s ≡ b → M.Reply.refused (number_of r) ≡ reply_to s c
+      by true p = step-refused (number_of r) (refusal-in p ∙ e) some ∙ sym (cond-true _ _ _ p)
       by false p = ap M.Reply.refused (sym e ∙ cond-false _ _ _ p) ∙ sym (cond-false _ _ _ p)
 
   pub accepted-step : (said : M.Reply) (t : Instrument) → refusal_of s c ≡ 0 → said ≡ (accepted (view s) c).reply → counted t ≡ true → view t ≡ (accepted (view s) c).model → StepAs s c said t
@@ -121,7 +178,7 @@ module _ (s : Instrument) (c : M.Call) where
         next = λ _. h ∙ ap (λ (o : M.Outcome). o.model) a;
       }
 
-  pub accepted-call : (r : Outcome) → refusal_of s c ≡ 0 → Gives (accepted (view s) c) r → CallAs s c r
+  pub accepted-call : (r : Called) → refusal_of s c ≡ 0 → Gives (accepted (view s) c) r → CallAs s c r
   accepted-call r e g = accepted-step (reply_of r.reply) r.state e g.reply g.in_room g.next
 
 -- ---- the next state
@@ -183,28 +240,29 @@ module _ (s : Instrument) (e : counted s ≡ true) where
 
 -- ---- a call that its state bars, one that is free, and the state that follows
 
-pub barred-call : (s : Instrument) (c : M.Call) (n : ℕ) (r : Outcome) → is_mix c ≡ false → n ≡ barred_by s → (n ≡ 0 → ⊥) → r ≡ refused_as s n → CallAs s c r
-barred-call s c n r m e z q = rw q (refused-call s c n (bars s c m (λ k. z (e ∙ k)) ∙ sym e) z)
+pub barred-call : (s : Instrument) (c : M.Call) (b : Bool) (x : Result (Unit {0}) Refusal) (refusal : Refusal) (r : Called) → is_mix c ≡ false
+    → b ≡ formed s → x ≡ barred_in b s.frames → x ≡ Err refusal → r ≡ refused_as s refusal → CallAs s c r
+barred-call s c b x refusal r m e f w q = rw q (refused-call s c refusal (bar-number s c x refusal m (barred-by s b x e f) w))
 
-pub control-call : (s : Instrument) (x : M.Control) (r : Outcome) → Free s → Gives (controlled (view s) x) r → CallAs s (M.Call.control x) r
+pub control-call : (s : Instrument) (x : M.Control) (r : Called) → Free s → Gives (controlled (view s) x) r → CallAs s (M.Call.control x) r
 unfolding handles_spent
 control-call s x r f g = accepted-call s (M.Call.control x) r (unrefused s (M.Call.control x) f refl refl refl refl) g
 
 -- the state as it was
-pub gives_same : (s : Instrument) (reply : Reply) (o : M.Outcome) (r : Outcome) → Free s → r ≡ answered_as reply s → reply_of reply ≡ o.reply → view s ≡ o.model → Gives o r
+pub gives_same : (s : Instrument) (reply : Reply) (o : M.Outcome) (r : Called) → Free s → r ≡ answered_as reply s → reply_of (Ok reply) ≡ o.reply → view s ≡ o.model → Gives o r
 gives_same s reply o r f q a b = rw q (record { reply = a; in_room = f.counted; next = b })
 
 -- another table, next handle, pedal and held notes
-pub gives-placed : (s : Instrument) (vs : List M.Voice) (t : Table) (next : ℕ) (sustain : Bool) (held : Held) (reply : Reply) (o : M.Outcome) (r : Outcome)
-    → r ≡ answered_as reply (placed_as s t next sustain held) → Stands vs t → held.count ≤ 256 → reply_of reply ≡ o.reply
+pub gives-placed : (s : Instrument) (vs : List M.Voice) (t : Table) (next : ℕ) (sustain : Bool) (held : Held) (reply : Reply) (o : M.Outcome) (r : Called)
+    → r ≡ answered_as reply (placed_as s t next sustain held) → Stands vs t → held.count ≤ 256 → reply_of (Ok reply) ≡ o.reply
     → placed (view s) vs next sustain (held_in held) ≡ o.model → Gives o r
 unfolding view counted placed_as placed
 gives-placed s vs t next sustain held reply o r q a b e f =
     rw q (record { reply = e; in_room = roomy_of t held a.size b a.room; next = rw a.voices f })
 
 -- another table, bend and brightness
-pub gives-tuned : (s : Instrument) (vs : List M.Voice) (t : Table) (x y : Float) (reply : Reply) (o : M.Outcome) (r : Outcome)
-    → r ≡ answered_as reply (tuned_as s t x y) → Stands vs t → counted s ≡ true → reply_of reply ≡ o.reply
+pub gives-tuned : (s : Instrument) (vs : List M.Voice) (t : Table) (x y : Float) (reply : Reply) (o : M.Outcome) (r : Called)
+    → r ≡ answered_as reply (tuned_as s t x y) → Stands vs t → counted s ≡ true → reply_of (Ok reply) ≡ o.reply
     → tuned (view s) vs x y ≡ o.model → Gives o r
 unfolding view counted tuned_as tuned
 gives-tuned s vs t x y reply o r q a k e f =

@@ -1,4 +1,5 @@
 -- The ways out of Mix.
+use Rattle.std.specs.Prelude.{Result, Ok, Err}
 use mathlib.Core.Path.{◌≡◌, refl, ap, sym, ◌∙◌}
 use mathlib.Core.Bool.{Bool, true, false, not, ◌&&◌, ◌||◌, cond}
 use mathlib.Core.List.{List}
@@ -10,6 +11,10 @@ use lib.Ieee.{Float}
 use lib.ListN.{length, take, replicate, length-take}
 use Rattle.lists.specs.Choose.{both, clash}
 use Rattle.float32.specs.Numbers.{zero as +0}
+use Rattle.outcome.specs.declared.Outcome.{Outcome}
+use Rattle.outcome.specs.declared.Refusal.{Refusal}
+use Rattle.outcome.specs.declared.Refusal.TheVariants.{Malformed, NoBlock, LentLength}
+use Rattle.outcome.specs.Numbers.{number_of}
 use Rattle.design.specs.declared.InstrumentDesign.{InstrumentDesign}
 use Rattle.design.specs.Accepted.{copies_of}
 use Rattle.model.specs.Types as M
@@ -27,11 +32,11 @@ use Rattle.table.proofs.Mixing.{Played, played-all}
 use Rattle.render.specs.Mixes.{PutAs}
 use Rattle.instrument.specs.View.{view, counted, formed}
 use Rattle.instrument.specs.Calls.{refusal_of, blocked_as}
-use Rattle.instrument.specs.Mixes.{MixAs, unmixed_as, mixed_as, mix_refusal}
+use Rattle.instrument.specs.Mixes.{MixAs, mix_fits}
 use Rattle.instrument.specs.declared.Instrument.{Instrument}
-use Rattle.instrument.specs.declared.MixOutcome.{MixOutcome}
+use Rattle.instrument.specs.declared.Report.{Report}
 use Rattle.instrument.proofs.Formed.{Parts, parts-of, table-copies}
-use Rattle.instrument.proofs.Calls.{counts, counted_of, refusal-in, refused-call, accepted-step, roomy_of}
+use Rattle.instrument.proofs.Calls.{some-number, number_in, counts, counted_of, refusal-in, refused-call, accepted-step, roomy_of}
 use Rattle.instrument.proofs.Plans.{frames-most, refused-lent, accepted-lent}
 
 -- an open block is no longer than the longest
@@ -50,47 +55,47 @@ either false b e = (refl, e)
 -- ---- the refusals
 
 -- both tests of lengths as the definition has them
-lengths-are : (a b c d : ℕ) → ◌≡◌ {A = ℕ} (cond (eqb a b && eqb c d) 0 7) (cond (not (eqb b a) || not (eqb d c)) 7 0)
+lengths-are : (a b c d : ℕ) → number_in (cond (eqb a b && eqb c d) (Ok tt) (Err LentLength)) ≡ (cond (not (eqb b a) || not (eqb d c)) 7 0)
 lengths-are a b c d = by (eqb a b) refl (eqb c d) refl
   where
-    by : (p : Bool) → eqb a b ≡ p → (q : Bool) → eqb c d ≡ q → ◌≡◌ {A = ℕ} (cond (eqb a b && eqb c d) 0 7) (cond (not (eqb b a) || not (eqb d c)) 7 0)
+    by : (p : Bool) → eqb a b ≡ p → (q : Bool) → eqb c d ≡ q → number_in (cond (eqb a b && eqb c d) (Ok tt) (Err LentLength)) ≡ (cond (not (eqb b a) || not (eqb d c)) 7 0)
     by true p true q = rw (p, q, eq-eqb b a (sym (eqb-true a b p)), eq-eqb d c (sym (eqb-true c d q)))
     by true p false q = rw (p, q, eq-eqb b a (sym (eqb-true a b p)), ne_eqb d c (λ e. eqb-false c d q (sym e)))
     by false p q r = rw (p, ne_eqb b a (λ e. eqb-false a b p (sym e)))
+
+module _ (s : Instrument) (xs out : List Float) where
+  pub mix-unformed : formed s ≡ false → refusal_of s (M.Call.mix xs out) ≡ number_of Malformed
+  unfolding refusal_of refusal formed
+  mix-unformed e = by (counted s) refl (well_formed (view s)) refl
+    where
+      by : (a : Bool) → counted s ≡ a → (b : Bool) → well_formed (view s) ≡ b → refusal_of s (M.Call.mix xs out) ≡ 1
+      by true p true q = absurd (clash (formed s) (rw (p, q)) e)
+      by true p false q = rw (p, q)
+      by false p b q = rw p
 
 module _ (s : Instrument) (xs out : List Float) (lv : length s.table.voices ≡ 64) (lh : length s.held.notes ≡ 256) where
   abbrev call : M.Call
   call = M.Call.mix xs out
 
-  abbrev numbered : Bool → ℕ
-  numbered b = mix_refusal b s.frames s.table.count s.design (length xs) (length out)
-
-  number-formed : formed s ≡ true → numbered true ≡ refusal_of s call
-  unfolding refusal_of refusal formed mix_refusal block_open block_missing no_block handles_spent view
-  number-formed e =
+  pub mix-number : formed s ≡ true → number_in (mix_fits s.design s.frames s.table.count (length xs) (length out)) ≡ refusal_of s call
+  unfolding refusal_of refusal formed mix_fits block_open block_missing no_block handles_spent view
+  mix-number e =
       let w = both (counted s) (well_formed (view s)) e in
       rw (w.0, w.1, table-copies s lv lh e)
-      (ap (λ (k : ℕ). cond (eqb s.frames 0) 6 k) (lengths-are (s.frames * (s.table.count * copies_of s.design)) (length xs) (2 * s.frames) (length out)))
-
-  number-unformed : formed s ≡ false → numbered false ≡ refusal_of s call
-  unfolding refusal_of refusal formed mix_refusal
-  number-unformed e = by (counted s) refl (well_formed (view s)) refl
+      (by (eqb s.frames 0) _ ∙ ap (λ (k : ℕ). cond (eqb s.frames 0) 6 k) (lengths-are (s.frames * (s.table.count * copies_of s.design)) (length xs) (2 * s.frames) (length out)))
     where
-      by : (a : Bool) → counted s ≡ a → (b : Bool) → well_formed (view s) ≡ b → 1 ≡ refusal_of s call
-      by true p true q = absurd (clash (formed s) (rw (p, q)) e)
-      by true p false q = rw (p, q)
-      by false p b q = rw p
-
-  pub mix-number : (b : Bool) (n : ℕ) → b ≡ formed s → n ≡ numbered b → n ≡ refusal_of s call
-  mix-number true n e f = f ∙ number-formed (sym e)
-  mix-number false n e f = f ∙ number-unformed (sym e)
+      by : (b : Bool) (x : Result (Unit {0}) Refusal) → number_in (cond b (Err NoBlock) x) ≡ cond b 6 (number_in x)
+      by true x = refl
+      by false x = refl
 
 -- ---- the call
 
 module _ (s : Instrument) (xs old : List Float) where
-  pub mix-refused : (k : ℕ) (r : MixOutcome) → k ≡ refusal_of s (M.Call.mix xs old) → (k ≡ 0 → ⊥) → r ≡ unmixed_as s k → MixAs s xs old old r
-  mix-refused k r e z q =
-      rw q (record { call = refused-call s _ k (sym e) z; nobody = λ _. refl; lent = refused-lent s (M.Call.mix xs old) (λ w. z (e ∙ w)) })
+  pub mix-refused : (refusal : Refusal) (r : Outcome Instrument Report) → refusal_of s (M.Call.mix xs old) ≡ number_of refusal
+      → r ≡ record { state = s; reply = Err refusal } → MixAs s xs old old r
+  mix-refused refusal r e q =
+      let l = some-number refusal in
+      rw q (record { call = refused-call s _ refusal e; lent = refused-lent s (M.Call.mix xs old) (λ w. let z : number_of refusal ≡ 0 = sym e ∙ w in omega arith) })
 
   -- t is the table after an accepted call
   module _ (lv : length s.table.voices ≡ 64) (lh : length s.held.notes ≡ 256) (e : refusal_of s (M.Call.mix xs old) ≡ 0) {left right : List Float} {ended : List ℕ} {t : Table}
@@ -119,7 +124,8 @@ module _ (s : Instrument) (xs old : List Float) where
         let size = mix-played.size in
         roomy_of t s.held (omega arith) parts.held256 (mix-played.room (counts s (counted_of s _ e)).room)
 
-    pub mix-done : (new : List Float) (r : MixOutcome) → PutAs left right s.frames old new → r ≡ mixed_as (blocked_as s t 0) (s.table.count - t.count) ended → MixAs s xs old new r
+    pub mix-done : (new : List Float) (r : Outcome Instrument Report) → PutAs left right s.frames old new
+        → r ≡ record { state = blocked_as s t 0; reply = Ok (record { count = s.table.count - t.count; ended = ended }) } → MixAs s xs old new r
     unfolding output view mix_of played blocked blocked_as
     mix-done new r o q =
         let p = mix-played in
@@ -131,6 +137,5 @@ module _ (s : Instrument) (xs old : List Float) where
         rw q
         (record {
           call = accepted-step s _ _ _ e p.said inside (ap (λ (vs : List M.Voice). blocked (view s) vs 0) p.voices);
-          nobody = λ z. absurd (z e);
           lent = put ∙ rw (p.left_sums, p.right_sums) (accepted-lent s (M.Call.mix xs old) e);
         })

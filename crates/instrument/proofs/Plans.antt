@@ -1,4 +1,5 @@
 -- The ways out of Plan and of its parts.
+use Rattle.std.specs.Prelude.{Ok, Err}
 use mathlib.Core.Path.{◌≡◌, refl, ap, sym, ◌∙◌, fun_ext}
 use mathlib.Core.Bool.{Bool, true, false, not, cond}
 use mathlib.Core.List.{List, map}
@@ -11,6 +12,9 @@ use lib.IntN.{pos}
 use lib.ListN.{length}
 use Rattle.lists.specs.Choose.{both, cond-true, cond-false}
 use Rattle.float32.specs.Numbers.{zero as +0}
+use Rattle.outcome.specs.declared.Refusal.{Refusal}
+use Rattle.outcome.specs.declared.Refusal.TheVariants.{Frames, LentLength}
+use Rattle.outcome.specs.Numbers.{number_of}
 use Rattle.stream.specs.declared.UnisonCopy.{UnisonCopy}
 use Rattle.stream.specs.Pitch.{bent, cut_to, glided}
 use Rattle.design.specs.declared.InstrumentDesign.{InstrumentDesign}
@@ -35,13 +39,12 @@ use Rattle.voice.specs.Changes.{copy_changed, voice_changed, on_seen}
 use Rattle.voice.specs.declared.CopyChange.TheVariants.{Bend, Wobble}
 use Rattle.voice.specs.declared.VoiceChange.{VoiceChange}
 use Rattle.instrument.specs.View.{view, roomy, counted}
-use Rattle.instrument.specs.Calls.{refusal_of, lent_of, answered_as, refused_as, barred_by, moved_as, blocked_as}
-use Rattle.instrument.specs.Plans.{PlannedAs, plan_refusal, step_of, phase_on, wobble_of, StandsFor}
+use Rattle.instrument.specs.Calls.{Called, refusal_of, lent_of, answered_as, refused_as, moved_as, blocked_as}
+use Rattle.instrument.specs.Plans.{PlannedAs, plan_fits, step_of, phase_on, wobble_of, StandsFor}
 use Rattle.instrument.specs.declared.Instrument.{Instrument}
-use Rattle.instrument.specs.declared.Outcome.{Outcome}
 use Rattle.instrument.specs.declared.Reply.TheVariants.{Planned}
 use Rattle.instrument.proofs.Formed.{table-copies}
-use Rattle.instrument.proofs.Calls.{Free, free, bars, counts, counted_of, refusal-in, refused-call, accepted-call, stands-mapped, roomy_of}
+use Rattle.instrument.proofs.Calls.{some-number, number_in, Free, counts, counted_of, refusal-in, refused-call, accepted-call, stands-mapped, roomy_of}
 
 -- ---- what the checks say of the numbers
 
@@ -59,50 +62,20 @@ frames-float n h = le→leb n (2 ^ 24) (omega arith)
 
 -- ---- the refusals
 
--- the number by the parts that were asked
-module _ (n frames voices : ℕ) (d : InstrumentDesign) (len : ℕ) where
-  pub plan-barred : (n ≡ 0 → ⊥) → n ≡ plan_refusal n frames voices d len
-  unfolding plan_refusal
-  plan-barred z = sym (cond-false _ _ _ (ne_eqb n 0 z))
-
-  module _ (z : n ≡ 0) where
-    pub plan-4 : frames_fit d frames ≡ false → 4 ≡ plan_refusal n frames voices d len
-    unfolding plan_refusal
-    plan-4 e = rw (eq-eqb n 0 z, e)
-
-    pub plan-0 : frames_fit d frames ≡ true → eqb (frames * (voices * copies_of d)) len ≡ true → 0 ≡ plan_refusal n frames voices d len
-    unfolding plan_refusal
-    plan-0 e f = rw (eq-eqb n 0 z, e, f)
-
-    pub plan-7 : frames_fit d frames ≡ true → eqb (frames * (voices * copies_of d)) len ≡ false → 7 ≡ plan_refusal n frames voices d len
-    unfolding plan_refusal
-    plan-7 e f = rw (eq-eqb n 0 z, e, f)
-
 module _ (s : Instrument) (n : ℕ) (vibrato filter sine : Float) (curve : List Float) (lv : length s.table.voices ≡ 64) (lh : length s.held.notes ≡ 256) where
-  abbrev call : M.Call
-  call = M.Call.plan n vibrato filter sine curve
-
   -- nothing bars the call
-  number-free : Free s → cond (frames_fit s.design n) (cond (eqb (n * (s.table.count * copies_of s.design)) (length curve)) 0 7) 4 ≡ refusal_of s call
-  unfolding refusal_of refusal block_open block_missing no_block handles_spent view
-  number-free f = rw (f.counted, f.well, eq-eqb s.frames 0 f.closed, table-copies s lv lh f.formed)
+  pub plan-number : Free s → number_in (plan_fits s.design n s.table.count (length curve)) ≡ refusal_of s (M.Call.plan n vibrato filter sine curve)
+  unfolding refusal_of refusal block_open block_missing no_block handles_spent view plan_fits
+  plan-number f = rw (f.counted, f.well, eq-eqb s.frames 0 f.closed, table-copies s lv lh f.formed)
       (by (frames_fit s.design n) (n * (s.table.count * copies_of s.design)) (length curve))
     where
-      by : (b : Bool) (x y : ℕ) → ◌≡◌ {A = ℕ} (cond b (cond (eqb x y) 0 7) 4) (cond (not b) 4 (cond (not (eqb y x)) 7 0))
+      by : (b : Bool) (x y : ℕ) → number_in (cond b (cond (eqb x y) (Ok tt) (Err LentLength)) (Err Frames)) ≡ cond (not b) 4 (cond (not (eqb y x)) 7 0)
       by b x y = cases b (eqb x y) refl
         where
-          cases : (b c : Bool) → eqb x y ≡ c → ◌≡◌ {A = ℕ} (cond b (cond (eqb x y) 0 7) 4) (cond (not b) 4 (cond (not (eqb y x)) 7 0))
+          cases : (b c : Bool) → eqb x y ≡ c → number_in (cond b (cond (eqb x y) (Ok tt) (Err LentLength)) (Err Frames)) ≡ cond (not b) 4 (cond (not (eqb y x)) 7 0)
           cases true true p = rw (p, eq-eqb y x (sym (eqb-true x y p)))
           cases true false p = rw (p, ne_eqb y x (λ e. eqb-false x y p (sym e)))
           cases false c p = refl
-
-  pub plan-number : (k m : ℕ) → k ≡ barred_by s → m ≡ plan_refusal k n s.table.count s.design (length curve) → m ≡ refusal_of s call
-  unfolding plan_refusal
-  plan-number k m e f = f ∙ by (eqb k 0) refl
-    where
-      by : (b : Bool) → eqb k 0 ≡ b → plan_refusal k n s.table.count s.design (length curve) ≡ refusal_of s call
-      by true p = cond-true _ _ _ p ∙ number-free (free s (sym e ∙ eqb-true k 0 p))
-      by false p = cond-false _ _ _ p ∙ e ∙ sym (bars s call refl (λ q. eqb-false k 0 p (e ∙ q)))
 
 -- ---- the lent list
 
@@ -178,8 +151,11 @@ module _ (s : Instrument) (n : ℕ) (vibrato filter sine : Float) where
 -- ---- the call
 
 module _ (s : Instrument) (n : ℕ) (vibrato filter sine : Float) (old : List Float) where
-  pub plan-refused : (k : ℕ) (r : Outcome) → k ≡ refusal_of s (M.Call.plan n vibrato filter sine old) → (k ≡ 0 → ⊥) → r ≡ refused_as s k → PlannedAs s n vibrato filter sine old old r
-  plan-refused k r e z q = rw q (record { call = refused-call s _ k (sym e) z; lent = refused-lent s (M.Call.plan n vibrato filter sine old) (λ w. z (e ∙ w)) })
+  pub plan-refused : (refusal : Refusal) (r : Called) → refusal_of s (M.Call.plan n vibrato filter sine old) ≡ number_of refusal → r ≡ refused_as s refusal
+      → PlannedAs s n vibrato filter sine old old r
+  plan-refused refusal r e q =
+      let l = some-number refusal in
+      rw q (record { call = refused-call s _ refusal e; lent = refused-lent s (M.Call.plan n vibrato filter sine old) (λ w. let z : number_of refusal ≡ 0 = sym e ∙ w in omega arith) })
 
   module _ (e : refusal_of s (M.Call.plan n vibrato filter sine old) ≡ 0) where
     kept : Passes (view s) (M.Call.plan n vibrato filter sine old)
@@ -196,7 +172,7 @@ module _ (s : Instrument) (n : ℕ) (vibrato filter sine : Float) (old : List Fl
           let q : copies_in (voices_in t.table) ≡ copies_in (view s).voices = ap (λ (w : M.Model). copies_in w.voices) m.next ∙ modulated-copies (view s) n vibrato filter sine in
           ap (◌*◌ n) q ∙ sym (eqb-true _ _ (not-false _ kept.lengths))
 
-      pub plan-done : (u : Table) (new : List Float) (r : Outcome) → GlidedTable n t.table old new u → r ≡ answered_as Planned (blocked_as t u n) → PlannedAs s n vibrato filter sine old new r
+      pub plan-done : (u : Table) (new : List Float) (r : Called) → GlidedTable n t.table old new u → r ≡ answered_as Planned (blocked_as t u n) → PlannedAs s n vibrato filter sine old new r
       unfolding plan_of opened view
       plan-done u new r g q =
           let w = glides-whole n t.table old new u plan-fits.0 plan-size g in

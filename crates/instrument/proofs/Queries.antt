@@ -1,4 +1,5 @@
 -- The ways out of the queries.
+use Rattle.std.specs.Prelude.{None, Some, Ok, Err}
 use mathlib.Core.Path.{◌≡◌, refl, sym}
 use mathlib.Core.Bool.{Bool, true, false}
 use Prim.Native.Nat.{ℕ, ◌≤◌, ◌<◌}
@@ -8,6 +9,7 @@ use lib.ListN.{length}
 use Rattle.lists.specs.Choose.{both}
 use Rattle.lists.specs.Places.{find_at}
 use Rattle.lists.specs.Found.{find-passes, find-missed}
+use Rattle.outcome.specs.declared.Refusal.TheVariants.{Malformed}
 use Rattle.model.specs.Types as M
 use Rattle.model.specs.Formed.{well_formed}
 use Rattle.model.specs.Queries as Q
@@ -17,7 +19,6 @@ use Rattle.table.specs.View.{voices_in}
 use Rattle.instrument.specs.View.{view, counted, formed}
 use Rattle.instrument.specs.Asked.{asked_of, VoiceAs}
 use Rattle.instrument.specs.declared.Instrument.{Instrument}
-use Rattle.instrument.specs.declared.Answer.TheVariants.{Handle, NoHandle, Refused}
 use Rattle.instrument.proofs.Calls.{counts}
 use Rattle.instrument.proofs.Formed.{voices-count}
 
@@ -40,7 +41,7 @@ module _ (s : Instrument) (e : formed s ≡ false) where
   unfolding active_voices
   voices-refused = asked-refused _ (λ w. rw w)
 
-  pub voice-refused : (n : ℕ) → VoiceAs s n (Refused 1)
+  pub voice-refused : (n : ℕ) → VoiceAs s n (Err Malformed)
   unfolding VoiceOf formed
   voice-refused n = record { in_room = λ p. ((rw p at e), refl); beyond = λ _. refl }
 
@@ -62,13 +63,13 @@ module _ (s : Instrument) (e : formed s ≡ true) (lv : length s.table.voices �
   voices-found = rw (fine.0, fine.1, voices-count s long)
 
   module _ (n k : ℕ) (q : k ≡ find_at (sounds_note n) (voices_in s.table)) where
-    pub voice-none : s.table.count ≤ k → VoiceAs s n NoHandle
+    pub voice-none : s.table.count ≤ k → VoiceAs s n (Ok None)
     unfolding VoiceOf view
     voice-none h =
         let l = voices-count s long in
         record { in_room = λ _. (fine.1, find-missed (sounds_note n) (voices_in s.table) (omega arith)); beyond = λ x. absurd (x fine.0) }
 
-    pub voice-some : (a : ℕ) → a ≡ handle_at k (voices_in s.table) → k < s.table.count → VoiceAs s n (Handle a)
+    pub voice-some : (a : ℕ) → a ≡ handle_at k (voices_in s.table) → k < s.table.count → VoiceAs s n (Ok (Some a))
     unfolding VoiceOf view
     voice-some a e h =
         let l = voices-count s long in

@@ -1,6 +1,10 @@
 -- What a call on a state promises: its reply, the next state through its view, and on a refusal the very state given
 -- (document 01, "What a call replies").
-use Rattle.std.specs.Prelude.{◌≡◌, Bool, true, false, ◌&&◌, cond, List, ℕ, eqb, Float}
+use Rattle.std.specs.Prelude.{◌≡◌, Bool, true, false, ◌&&◌, cond, List, ℕ, eqb, Float, unwrap_or, Result, Ok, Err}
+use Rattle.outcome.specs.declared.Outcome.{Outcome}
+use Rattle.outcome.specs.declared.Refusal.{Refusal}
+use Rattle.outcome.specs.declared.Refusal.TheVariants.{Malformed, BlockOpen, NoHandleLeft}
+use Rattle.outcome.specs.Numbers.{number_of}
 use Rattle.design.specs.declared.InstrumentDesign.{InstrumentDesign}
 use Rattle.model.specs.Types as model
 use Rattle.model.specs.Step.{refusal, lent_to, step}
@@ -9,21 +13,23 @@ use Rattle.table.specs.declared.Table.{Table}
 use Rattle.held.specs.declared.Held.{Held}
 use Rattle.instrument.specs.View.{view, counted, formed}
 use Rattle.instrument.specs.declared.Instrument.{Instrument}
-use Rattle.instrument.specs.declared.NewInstrument.{NewInstrument}
-use Rattle.instrument.specs.declared.Outcome.{Outcome}
 use Rattle.instrument.specs.declared.Reply.{Reply}
-use Rattle.instrument.specs.declared.Reply.TheVariants.{Started, Silent, Kept, Off, Done, Released, Planned, Refused}
+use Rattle.instrument.specs.declared.Reply.TheVariants.{Started, Silent, Kept, Off, Done, Released, Planned}
 
--- document 01's reply, with its number and values, for each case
-abbrev pub reply_of : Reply → model.Reply
-reply_of (Started handle killed taken) = model.Reply.started handle killed taken
-reply_of (Silent handle) = model.Reply.silent handle
-reply_of (Kept handle) = model.Reply.kept handle
-reply_of (Off found) = model.Reply.off found
-reply_of Done = model.Reply.done
-reply_of (Released found) = model.Reply.released found
-reply_of Planned = model.Reply.planned
-reply_of (Refused n) = model.Reply.refused n
+-- what a call gives
+abbrev pub Called : Type 0
+Called = Outcome Instrument Reply
+
+-- document 01's reply, with its number and values, for each case; 0 for no handle
+abbrev pub reply_of : Result Reply Refusal → model.Reply
+reply_of (Ok (Started handle killed taken)) = model.Reply.started handle (unwrap_or killed 0) (unwrap_or taken 0)
+reply_of (Ok (Silent handle)) = model.Reply.silent handle
+reply_of (Ok (Kept handle)) = model.Reply.kept handle
+reply_of (Ok (Off found)) = model.Reply.off found
+reply_of (Ok Done) = model.Reply.done
+reply_of (Ok (Released found)) = model.Reply.released found
+reply_of (Ok Planned) = model.Reply.planned
+reply_of (Err refusal) = model.Reply.refused (number_of refusal)
 
 -- the number of the refusal, 0 where the call is accepted: a count beyond its array is refusal 1 before anything else is read
 unfoldable pub refusal_of : Instrument → model.Call → ℕ
@@ -45,34 +51,34 @@ pub record StepAs (s : Instrument) (c : model.Call) (said : model.Reply) (t : In
   pub in_room : refusal_of s c ≡ 0 → counted t ≡ true
   pub next : refusal_of s c ≡ 0 → view t ≡ (step (view s) c).model
 
-abbrev pub CallAs : Instrument → model.Call → Outcome → Type 0
+abbrev pub CallAs : Instrument → model.Call → Called → Type 0
 CallAs s c r = StepAs s c (reply_of r.reply) r.state
 
 -- a start: "2, 3 at the start"; "a refused start comes with a state of zeros, Poly, no block open"
-pub record StartAs (d : InstrumentDesign) (r : NewInstrument) : Type 0 where
+pub record StartAs (d : InstrumentDesign) (r : Outcome Instrument (Unit {0})) : Type 0 where
   pub reply : r.reply ≡ (start_of d).reply
   pub in_room : counted r.state ≡ true
   pub state : view r.state ≡ (start_of d).model
 
 -- what a call gives where the checks have passed: a reply, and a state in room whose view is the next model
-pub record Gives (o : model.Outcome) (r : Outcome) : Type 0 where
+pub record Gives (o : model.Outcome) (r : Called) : Type 0 where
   pub reply : reply_of r.reply ≡ o.reply
   pub in_room : counted r.state ≡ true
   pub next : view r.state ≡ o.model
 
 -- ---- the parts that the calls are made of
 
-abbrev pub answered_as : Reply → Instrument → Outcome
-answered_as r s = record { reply = r; state = s }
+abbrev pub answered_as : Reply → Instrument → Called
+answered_as reply s = record { state = s; reply = Ok reply }
 
-abbrev pub refused_as : Instrument → ℕ → Outcome
-refused_as s n = answered_as (Refused n) s
+abbrev pub refused_as : Instrument → Refusal → Called
+refused_as s refusal = record { state = s; reply = Err refusal }
 
 -- what bars a call other than Mix, by check 1 and the frames of the open block: refusal 1, then 5
-unfoldable pub barred_in : Bool → ℕ → ℕ
-barred_in formed frames = cond formed (cond (eqb frames 0) 0 5) 1
+unfoldable pub barred_in : Bool → ℕ → Result (Unit {0}) Refusal
+barred_in formed frames = cond formed (cond (eqb frames 0) (Ok tt) (Err BlockOpen)) (Err Malformed)
 
-abbrev pub barred_by : Instrument → ℕ
+abbrev pub barred_by : Instrument → Result (Unit {0}) Refusal
 barred_by s = barred_in (formed s) s.frames
 
 -- the largest next handle: none is left
@@ -80,8 +86,8 @@ abbrev pub last_handle : ℕ
 last_handle = 0xffff_ffff_ffff_ffff
 
 -- a note-on that is no note-off: refusal 8 where a handle is due and none is left, else what the definition gives
-pub record OnAs (s : Instrument) (due : Bool) (o : model.Outcome) (r : Outcome) : Type 0 where
-  pub spent : (due && eqb s.next_handle last_handle) ≡ true → r ≡ refused_as s 8
+pub record OnAs (s : Instrument) (due : Bool) (o : model.Outcome) (r : Called) : Type 0 where
+  pub spent : (due && eqb s.next_handle last_handle) ≡ true → r ≡ refused_as s NoHandleLeft
   pub done : (due && eqb s.next_handle last_handle) ≡ false → Gives o r
 
 -- another table, next handle, pedal and held notes

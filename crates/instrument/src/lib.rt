@@ -2,8 +2,8 @@
 
 #![tactic(auto)]
 
-ghost use Rattle.std.specs.Prelude.{◌≡◌, true, ◌<◌};
-ghost use Rattle.design.specs.Accepted.{is_accepted};
+ghost use Rattle.std.specs.Prelude.{◌≡◌, true, ◌<◌, ◌≤◌, ◌*◌, ◌==◌, Ok, unwrap_or};
+ghost use Rattle.design.specs.Accepted.{is_accepted, copies_of};
 ghost use Rattle.model.specs.Types.{Control, Call};
 ghost use Rattle.model.specs.Formed.{frames_fit, block_fits};
 ghost use Rattle.model.specs.Laws.{TimesFit};
@@ -12,15 +12,16 @@ ghost use Rattle.model.specs.Queries.{is_active, active_voices};
 ghost use Rattle.design.specs.declared.PlayMode.TheVariants.{Mono};
 ghost use Rattle.model.specs.Notes.{mono_off, velocity_of, new_note, mono_on, new_handle_in};
 ghost use Rattle.instrument.specs.View.{view, counted, numbers_fit, formed as formed_state};
-ghost use Rattle.instrument.specs.Calls.{StartAs, last_handle, refused_as, answered_as, barred_in, barred_by, Gives, OnAs, CallAs};
+ghost use Rattle.instrument.specs.Calls.{StartAs, last_handle, barred_in, barred_by, Gives, OnAs, CallAs};
 ghost use Rattle.instrument.specs.Levels.{StartLevels};
-ghost use Rattle.instrument.specs.Asked.{answer_of, asked_of, VoiceAs};
+ghost use Rattle.instrument.specs.Asked.{active_of, voices_of, asked_of, VoiceAs};
 
 use design::{InstrumentDesign, PlayMode, zero_design};
 use envelope::EnvGen;
 use held::Held;
+use lists::fills;
 use note::Note;
-use outcome::Refusal;
+use outcome::{Outcome, Refusal};
 use stream::UnisonCopy;
 use table::Table;
 use voice::{CopyChange, Voice, VoiceChange, VoiceTest, new_voice};
@@ -50,11 +51,15 @@ pub struct Instrument {
     pub frames: usize,
 }
 
-// What a call replies; the number is that of the refusal.
+// What a call replies.
 #[derive(Clone, Copy)]
 pub enum Reply {
-    // A new handle with its voice; the handles killed and taken out, 0 for none.
-    Started(u64, u64, u64),
+    // A new handle with its voice, and the handles killed and taken out for it.
+    Started {
+        handle: u64,
+        killed: Option<u64>,
+        taken: Option<u64>,
+    },
     // A new handle, and no voice.
     Silent(u64),
     // The Mono voice that goes on.
@@ -64,45 +69,14 @@ pub enum Reply {
     Done,
     Released(bool),
     Planned,
-    Refused(u8),
 }
 
+// What Mix reports: the voices that ended with the block.
 #[derive(Clone, Copy)]
-pub struct Outcome {
-    pub state: Instrument,
-    pub reply: Reply,
-}
-
-// What Mix replies; the number is that of the refusal.
-#[derive(Clone, Copy)]
-pub enum MixReply {
-    // How many voices ended.
-    Mixed(usize),
-    Refused(u8),
-}
-
-#[derive(Clone, Copy)]
-pub struct MixOutcome {
-    pub state: Instrument,
-    pub reply: MixReply,
-    // The handles of the voices that ended, in table order, with zeros behind.
+pub struct Report {
+    pub count: usize,
+    // Their handles, in table order, with zeros behind.
     pub ended: [u64; 64],
-}
-
-// What a query answers; the number is that of the refusal.
-#[derive(Clone, Copy)]
-pub enum Answer {
-    Active(bool),
-    Voices(usize),
-    Handle(u64),
-    NoHandle,
-    Refused(u8),
-}
-
-#[derive(Clone, Copy)]
-pub struct NewInstrument {
-    pub reply: Result<(), Refusal>,
-    pub state: Instrument,
 }
 
 fn is_accepted(design: InstrumentDesign) -> bool
@@ -116,29 +90,32 @@ fn is_accepted(design: InstrumentDesign) -> bool
 }
 
 // Whether a block may have so many frames: fewer where the modulation is active.
+#[tactic(auto, unfolding(model::specs::Formed::frames_fit))]
 fn frames_fit(design: InstrumentDesign, frames: usize) -> bool
     ensures { result ≡ frames_fit design frames }
 {
-    if frames < 1 {
-        return false;
-    }
     let modulation = design.modulation;
-    if modulation.is_active() {
-        return frames <= 64;
-    }
-    frames <= 1024
+    let most = if modulation.is_active() { 64 } else { 1024 };
+    1 <= frames && frames <= most
 }
 
+#[tactic(auto, unfolding(model::specs::Formed::block_fits))]
 fn block_fits(design: InstrumentDesign, frames: usize) -> bool
     ensures { result ≡ block_fits design frames }
 {
-    if frames == 0 {
-        return true;
-    }
-    frames_fit(design, frames)
+    frames == 0 || frames_fit(design, frames)
+}
+
+// Whether a lent list has a place for each frame of every copy. In a well formed table every voice has the design's copies.
+fn copies_fill(design: InstrumentDesign, frames: usize, voices: usize, len: usize) -> bool
+    requires { voices ≤ 64 }
+    ensures { result ≡ frames * (voices * copies_of design) == len }
+{
+    fills(frames, voices * (design.copies() as usize), len)
 }
 
 // Check 1, the counts, the design, the next handle and the block.
+#[tactic(auto, unfolding(crate::specs::View::numbers_fit))]
 fn numbers_fit(
     design: InstrumentDesign,
     voices: usize,
@@ -148,22 +125,12 @@ fn numbers_fit(
 ) -> bool
     ensures { result ≡ numbers_fit design voices held next frames }
 {
-    if 64 < voices {
-        return false;
-    }
-    if 256 < held {
-        return false;
-    }
-    if !is_accepted(design) {
-        return false;
-    }
-    if 2 * (design.max_voices as usize) < voices {
-        return false;
-    }
-    if next < 1 {
-        return false;
-    }
-    block_fits(design, frames)
+    voices <= 64
+        && held <= 256
+        && is_accepted(design)
+        && voices <= 2 * (design.max_voices as usize)
+        && 1 <= next
+        && block_fits(design, frames)
 }
 
 // A voice that stands in no table.
@@ -185,6 +152,7 @@ fn no_voice() -> Voice {
 
 impl Instrument {
     // A state with no voice and nothing held.
+    #[tactic(auto, unfolding(crate::specs::View::view, crate::specs::View::roomy, crate::specs::View::counted))]
     fn empty(design: InstrumentDesign, next_handle: u64, scale: f32) -> Instrument
         ensures { (counted result ≡ true) × (view result ≡ empty_state design next_handle scale) }
     {
@@ -211,19 +179,15 @@ impl Instrument {
         }
     }
 
-    pub fn new(design: InstrumentDesign) -> NewInstrument
+    pub fn new(design: InstrumentDesign) -> Outcome<Instrument, ()>
         ensures { StartAs design result }
     {
         let reply = design.accepted();
         match reply {
-            Ok(_) => NewInstrument {
-                reply,
-                state: Instrument::empty(design, 1, 1.0),
-            },
-            Err(_) => NewInstrument {
-                reply,
-                state: Instrument::empty(zero_design(), 0, 0.0),
-            },
+            Ok(()) => Outcome::answered(Instrument::empty(design, 1, 1.0), ()),
+            Err(refusal) => {
+                Outcome::refused(Instrument::empty(zero_design(), 0, 0.0), refusal)
+            }
         }
     }
 }
@@ -240,33 +204,30 @@ pub fn levels_within(design: InstrumentDesign)
     times_fit(design);
 }
 
-fn answered(reply: Reply, state: Instrument) -> Outcome
-    ensures { result ≡ answered_as reply state }
-{
-    Outcome { reply, state }
-}
-
-// The very state given.
-fn refused(state: Instrument, number: u8) -> Outcome
-    ensures { result ≡ refused_as state number }
-{
-    Outcome {
-        reply: Reply::Refused(number),
-        state,
-    }
-}
-
-// 1 or 5 where a call other than Mix meets a state that bars it, else 0: by check 1 and the frames of the open block.
-fn barred(formed: bool, frames: usize) -> u8
+// What bars a call other than Mix: by check 1 and the frames of the open block.
+#[tactic(auto, unfolding(crate::specs::Calls::barred_in))]
+fn barred(formed: bool, frames: usize) -> Result<(), Refusal>
     ensures { result ≡ barred_in formed frames }
 {
     if !formed {
-        return 1;
+        return Err(Refusal::Malformed);
     }
-    if frames == 0 { 0 } else { 5 }
+    if frames == 0 {
+        Ok(())
+    } else {
+        Err(Refusal::BlockOpen)
+    }
+}
+
+// A handle, where 0 stands for none.
+fn named(number: u64) -> Option<u64>
+    ensures { unwrap_or result 0 ≡ number }
+{
+    if number == 0 { None } else { Some(number) }
 }
 
 // A NaN is no velocity; others lie within 0 and 1.
+#[tactic(auto, unfolding(model::specs::Notes::velocity_of))]
 fn velocity_of(velocity: f32) -> f32
     ensures { result ≡ velocity_of velocity }
 {
@@ -283,32 +244,26 @@ impl Instrument {
     {
         let design = self.design;
         let held = self.held.count;
-        if !numbers_fit(
+        numbers_fit(
             design,
             self.table.count,
             held,
             self.next_handle,
             self.frames,
-        ) {
-            return false;
-        }
-        if !self.table.fits(design, self.next_handle, held) {
-            return false;
-        }
-        self.held.distinct()
+        ) && self.table.fits(design, self.next_handle, held)
+            && self.held.distinct()
     }
 
     // Starts a note, or goes on with the Mono voice; at velocity 0 it is a note-off.
-    pub fn note_on(self, note: u8, velocity: f32, built: bool) -> Outcome
+    pub fn note_on(self, note: u8, velocity: f32, built: bool) -> Outcome<Instrument, Reply>
         ensures { CallAs self (Call.note_on note velocity built) result }
     {
         let level = velocity_of(velocity);
         if level == 0.0 {
             return self.note_off(note);
         }
-        let number = barred(self.well_formed(), self.frames);
-        if number != 0 {
-            return refused(self, number);
+        if let Err(refusal) = barred(self.well_formed(), self.frames) {
+            return Outcome::refused(self, refusal);
         }
         let design = self.design;
         let mode = design.mode;
@@ -316,32 +271,45 @@ impl Instrument {
             return self.mono_note_on(note, level, built, legato);
         }
         if self.next_handle == 0xffff_ffff_ffff_ffff {
-            return refused(self, 8);
+            return Outcome::refused(self, Refusal::NoHandleLeft);
         }
         self.spawn_voice(note, level, built)
     }
 
     // A new handle, with a voice where one was built; for the voice room is made.
-    fn spawn_voice(mut self, note: u8, velocity: f32, built: bool) -> Outcome
+    fn spawn_voice(mut self, note: u8, velocity: f32, built: bool) -> Outcome<Instrument, Reply>
         requires { (counted self ≡ true) × (is_accepted self.design ≡ true) × (self.next_handle < last_handle) }
         ensures { Gives (new_note (view self) (view self).held note velocity built) result }
     {
         let handle = self.next_handle;
         self.next_handle = handle + 1;
         if !built {
-            return answered(Reply::Silent(handle), self);
+            return Outcome::answered(self, Reply::Silent(handle));
         }
         let design = self.design;
         let voice = new_voice(design, self.bend, self.brightness, handle, note, velocity);
         let added = self.table.add(voice, design.max_voices);
         let table = added.table;
         self.table = table;
-        answered(Reply::Started(handle, added.killed, added.taken), self)
+        Outcome::answered(
+            self,
+            Reply::Started {
+                handle,
+                killed: named(added.killed),
+                taken: named(added.taken),
+            },
+        )
     }
 
     // Mono: the voice that sounds goes on with the note, else a new one is due.
-    fn mono_note_on(mut self, note: u8, velocity: f32, built: bool, legato: bool) -> Outcome
-        requires { barred_by self ≡ 0 }
+    fn mono_note_on(
+        mut self,
+        note: u8,
+        velocity: f32,
+        built: bool,
+        legato: bool,
+    ) -> Outcome<Instrument, Reply>
+        requires { barred_by self ≡ Ok tt }
         ensures { OnAs self (new_handle_in (Mono legato) (view self)) (mono_on (view self) legato note velocity built) result }
     {
         let with = self.held.with(note);
@@ -352,23 +320,23 @@ impl Instrument {
             let kept = self.table.change_at(place, change);
             self.held = with;
             self.table = kept;
-            return answered(Reply::Kept(handle), self);
+            return Outcome::answered(self, Reply::Kept(handle));
         }
         if self.next_handle == 0xffff_ffff_ffff_ffff {
-            return refused(self, 8);
+            return Outcome::refused(self, Refusal::NoHandleLeft);
         }
         self.held = with;
         self.spawn_voice(note, velocity, built)
     }
 
     // Mono: the voice falls back to the newest note still held, or goes off where none is.
-    fn mono_note_off(mut self, note: u8) -> Outcome
-        requires { barred_by self ≡ 0 }
+    fn mono_note_off(mut self, note: u8) -> Outcome<Instrument, Reply>
+        requires { barred_by self ≡ Ok tt }
         ensures { Gives (mono_off (view self) note) result }
     {
         let rest = self.held.without(note);
         if rest.count == self.held.count {
-            return answered(Reply::Off(false), self);
+            return Outcome::answered(self, Reply::Off(false));
         }
         self.held = rest;
         if rest.count == 0 {
@@ -376,7 +344,7 @@ impl Instrument {
                 .table
                 .change_all(VoiceChange::OffSounding(self.sustain));
             self.table = off;
-            return answered(Reply::Off(true), self);
+            return Outcome::answered(self, Reply::Off(true));
         }
         let place = self.table.find_first(VoiceTest::Sounding);
         let aimed = self.table.change_at(
@@ -384,16 +352,15 @@ impl Instrument {
             VoiceChange::AimAt(rest.newest(), self.design.glide),
         );
         self.table = aimed;
-        answered(Reply::Off(true), self)
+        Outcome::answered(self, Reply::Off(true))
     }
 
     // The newest voice of the note goes off.
-    pub fn note_off(mut self, note: u8) -> Outcome
+    pub fn note_off(mut self, note: u8) -> Outcome<Instrument, Reply>
         ensures { CallAs self (Call.control (Control.note_off note)) result }
     {
-        let number = barred(self.well_formed(), self.frames);
-        if number != 0 {
-            return refused(self, number);
+        if let Err(refusal) = barred(self.well_formed(), self.frames) {
+            return Outcome::refused(self, refusal);
         }
         let design = self.design;
         let mode = design.mode;
@@ -402,53 +369,50 @@ impl Instrument {
         }
         let place = self.table.find_last(VoiceTest::Plays(note));
         if self.table.count <= place {
-            return answered(Reply::Off(false), self);
+            return Outcome::answered(self, Reply::Off(false));
         }
         let off = self.table.change_at(place, VoiceChange::Off(self.sustain));
         self.table = off;
-        answered(Reply::Off(true), self)
+        Outcome::answered(self, Reply::Off(true))
     }
 
     // Sustain pedal: on its release every sustained voice is released.
-    pub fn set_sustain(mut self, down: bool) -> Outcome
+    pub fn set_sustain(mut self, down: bool) -> Outcome<Instrument, Reply>
         ensures { CallAs self (Call.control (Control.pedal down)) result }
     {
-        let number = barred(self.well_formed(), self.frames);
-        if number != 0 {
-            return refused(self, number);
+        if let Err(refusal) = barred(self.well_formed(), self.frames) {
+            return Outcome::refused(self, refusal);
         }
         self.sustain = down;
         if down {
-            return answered(Reply::Done, self);
+            return Outcome::answered(self, Reply::Done);
         }
         let lifted = self.table.change_all(VoiceChange::Lift);
         self.table = lifted;
-        answered(Reply::Done, self)
+        Outcome::answered(self, Reply::Done)
     }
 
     // Bends every voice, and any struck later, by the wheel's factor.
-    pub fn set_bend(mut self, factor: f32) -> Outcome
+    pub fn set_bend(mut self, factor: f32) -> Outcome<Instrument, Reply>
         ensures { CallAs self (Call.control (Control.bend factor)) result }
     {
-        let number = barred(self.well_formed(), self.frames);
-        if number != 0 {
-            return refused(self, number);
+        if let Err(refusal) = barred(self.well_formed(), self.frames) {
+            return Outcome::refused(self, refusal);
         }
         self.bend = factor;
         let bent = self
             .table
             .change_all(VoiceChange::Copies(CopyChange::Bend(factor)));
         self.table = bent;
-        answered(Reply::Done, self)
+        Outcome::answered(self, Reply::Done)
     }
 
     // Sets the cutoff of every copy, and of any built later.
-    pub fn set_brightness(mut self, scale: f32) -> Outcome
+    pub fn set_brightness(mut self, scale: f32) -> Outcome<Instrument, Reply>
         ensures { CallAs self (Call.control (Control.brightness scale)) result }
     {
-        let number = barred(self.well_formed(), self.frames);
-        if number != 0 {
-            return refused(self, number);
+        if let Err(refusal) = barred(self.well_formed(), self.frames) {
+            return Outcome::refused(self, refusal);
         }
         let least = float32::max(scale, 0.01);
         self.brightness = least;
@@ -456,72 +420,70 @@ impl Instrument {
             .table
             .change_all(VoiceChange::Copies(CopyChange::Cutoff(least)));
         self.table = cut;
-        answered(Reply::Done, self)
+        Outcome::answered(self, Reply::Done)
     }
 
     // Releases one voice by its handle.
-    pub fn release(mut self, handle: u64) -> Outcome
+    pub fn release(mut self, handle: u64) -> Outcome<Instrument, Reply>
         ensures { CallAs self (Call.control (Control.release handle)) result }
     {
-        let number = barred(self.well_formed(), self.frames);
-        if number != 0 {
-            return refused(self, number);
+        if let Err(refusal) = barred(self.well_formed(), self.frames) {
+            return Outcome::refused(self, refusal);
         }
         let place = self.table.find_first(VoiceTest::Handle(handle));
         if self.table.count <= place {
-            return answered(Reply::Released(false), self);
+            return Outcome::answered(self, Reply::Released(false));
         }
         let after = self.table.change_at(place, VoiceChange::Release);
         self.table = after;
-        answered(Reply::Released(true), self)
+        Outcome::answered(self, Reply::Released(true))
     }
 
     // Releases every voice and holds no note.
-    pub fn all_notes_off(mut self) -> Outcome
+    pub fn all_notes_off(mut self) -> Outcome<Instrument, Reply>
         ensures { CallAs self (Call.control Control.all_off) result }
     {
-        let number = barred(self.well_formed(), self.frames);
-        if number != 0 {
-            return refused(self, number);
+        if let Err(refusal) = barred(self.well_formed(), self.frames) {
+            return Outcome::refused(self, refusal);
         }
         let after = self.table.change_all(VoiceChange::Release);
         self.table = after;
         self.held.count = 0;
-        answered(Reply::Done, self)
+        Outcome::answered(self, Reply::Done)
     }
 
     // Whether a handle is in the table.
-    pub fn is_active(self, handle: u64) -> Answer
-        ensures { answer_of result ≡ asked_of self (is_active (view self) handle) }
+    pub fn is_active(self, handle: u64) -> Result<bool, Refusal>
+        ensures { active_of result ≡ asked_of self (is_active (view self) handle) }
     {
         if !self.well_formed() {
-            return Answer::Refused(1);
+            return Err(Refusal::Malformed);
         }
         let place = self.table.find_first(VoiceTest::Handle(handle));
-        Answer::Active(place < self.table.count)
+        Ok(place < self.table.count)
     }
 
     // How many voices are in the table.
-    pub fn active_voices(self) -> Answer
-        ensures { answer_of result ≡ asked_of self (active_voices (view self)) }
+    pub fn active_voices(self) -> Result<usize, Refusal>
+        ensures { voices_of result ≡ asked_of self (active_voices (view self)) }
     {
         if !self.well_formed() {
-            return Answer::Refused(1);
+            return Err(Refusal::Malformed);
         }
-        Answer::Voices(self.table.count)
+        Ok(self.table.count)
     }
 
     // Some voice of a note that is not releasing.
-    pub fn voice_of(self, note: u8) -> Answer
+    pub fn voice_of(self, note: u8) -> Result<Option<u64>, Refusal>
         ensures { VoiceAs self note result }
     {
         if !self.well_formed() {
-            return Answer::Refused(1);
+            return Err(Refusal::Malformed);
         }
         let place = self.table.find_first(VoiceTest::SoundsNote(note));
         if self.table.count <= place {
-            return Answer::NoHandle;
+            return Ok(None);
         }
-        Answer::Handle(self.table.handle_at(place))
+        Ok(Some(self.table.handle_at(place)))
     }
 }

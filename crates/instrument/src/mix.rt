@@ -1,70 +1,48 @@
 // Mix (the Rust's `render_block`): the sound of the open block, and the voices that end with it.
 
-ghost use Rattle.std.specs.Prelude.{◌≡◌, true, ◌≤◌};
-ghost use Rattle.instrument.specs.Mixes.{MixAs, unmixed_as, mixed_as, mix_refusal};
+ghost use Rattle.std.specs.Prelude.{◌≡◌, ◌≤◌};
+ghost use Rattle.instrument.specs.Mixes.{MixAs, mix_fits};
 
-use crate::{Instrument, MixOutcome, MixReply};
+use crate::{Instrument, Report, copies_fill};
 use design::InstrumentDesign;
 use lists::fills;
+use outcome::{Outcome, Refusal};
 
-// The very state given, with the number of the refusal and nothing reported.
-fn unmixed(state: Instrument, number: u8) -> MixOutcome
-    ensures { result ≡ unmixed_as state number }
-{
-    MixOutcome {
-        reply: MixReply::Refused(number),
-        ended: [0; 64],
-        state,
-    }
-}
-
-fn mixed(state: Instrument, gone: usize, ended: [u64; 64]) -> MixOutcome
-    ensures { result ≡ mixed_as state gone ended }
-{
-    MixOutcome {
-        reply: MixReply::Mixed(gone),
-        ended,
-        state,
-    }
-}
-
-// The number of the refusal of a mix of so many samples into so many places, 0 where it is accepted: by check 1 of
-// the state, the frames of its block and how many voices it has. In a well formed table every voice has the design's
-// copies.
-fn mix_refusal(
-    formed: bool,
+// Whether a well formed state with so many voices mixes so many samples into so many places.
+#[tactic(auto, unfolding(crate::specs::Mixes::mix_fits))]
+fn mix_fits(
+    design: InstrumentDesign,
     frames: usize,
     voices: usize,
-    design: InstrumentDesign,
     samples: usize,
     places: usize,
-) -> u8
-    requires { formed ≡ true → voices ≤ 64 }
-    ensures { result ≡ mix_refusal formed frames voices design samples places }
+) -> Result<(), Refusal>
+    requires { voices ≤ 64 }
+    ensures { result ≡ mix_fits design frames voices samples places }
 {
-    if !formed {
-        return 1;
-    }
     if frames == 0 {
-        return 6;
+        return Err(Refusal::NoBlock);
     }
-    if !fills(frames, voices * (design.copies() as usize), samples) {
-        return 7;
+    if copies_fill(design, frames, voices, samples) && fills(2, frames, places) {
+        Ok(())
+    } else {
+        Err(Refusal::LentLength)
     }
-    if fills(2, frames, places) { 0 } else { 7 }
 }
 
 impl Instrument {
     // Sums the samples of every copy into both sides, drops the voices that have ended and closes the block.
-    pub fn mix(mut self, samples: &[f32], out: &mut [f32]) -> MixOutcome
+    pub fn mix(mut self, samples: &[f32], out: &mut [f32]) -> Outcome<Instrument, Report>
         ensures { MixAs self samples.now out.old out.new result }
     {
         let frames = self.frames;
         let count = self.table.count;
-        let formed = self.well_formed();
-        let number = mix_refusal(formed, frames, count, self.design, samples.len(), out.len());
-        if number != 0 {
-            return unmixed(self, number);
+        if !self.well_formed() {
+            return Outcome::refused(self, Refusal::Malformed);
+        }
+        let fits = mix_fits(self.design, frames, count, samples.len(), out.len());
+        if let Err(refusal) = fits {
+            return Outcome::refused(self, refusal);
         }
         let mut left = [0.0f32; 1024];
         let mut right = [0.0f32; 1024];
@@ -76,6 +54,6 @@ impl Instrument {
         self.table = after;
         self.frames = 0;
         render::put(&left, &right, frames, out);
-        mixed(self, gone, ended)
+        Outcome::answered(self, Report { count: gone, ended })
     }
 }

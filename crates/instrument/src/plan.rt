@@ -5,20 +5,22 @@ ghost use Rattle.design.specs.Accepted.{modulated as is_modulated};
 ghost use Rattle.envelope.specs.Start.{rate_fits};
 ghost use Rattle.model.specs.Plan.{vibrato_factor, filter_factor, tremolo_gain, applied};
 ghost use Rattle.instrument.specs.View.{view};
-ghost use Rattle.instrument.specs.Plans.{PlannedAs, plan_refusal, step_of, phase_on, wobble_of, StandsFor};
+ghost use Rattle.instrument.specs.Plans.{PlannedAs, plan_fits, step_of, phase_on, wobble_of, StandsFor};
 
-use crate::{Instrument, Outcome, Reply, answered, barred, frames_fit, refused};
+use crate::{Instrument, Reply, barred, copies_fill, frames_fit};
 use design::{InstrumentDesign, Modulation};
-use lists::fills;
+use outcome::{Outcome, Refusal};
 use voice::{CopyChange, VoiceChange};
 
 // The host's factor, where the vibrato has a depth.
+#[tactic(auto, unfolding(model::specs::Plan::vibrato_factor))]
 fn vibrato_factor(m: Modulation, vibrato: f32) -> f32
     ensures { result ≡ vibrato_factor m vibrato }
 {
     if m.vibrato_cents > 0.0 { vibrato } else { 1.0 }
 }
 
+#[tactic(auto, unfolding(model::specs::Plan::filter_factor))]
 fn filter_factor(m: Modulation, filter: f32) -> f32
     ensures { result ≡ filter_factor m filter }
 {
@@ -26,6 +28,7 @@ fn filter_factor(m: Modulation, filter: f32) -> f32
 }
 
 // Only the depth counts here, not the rate.
+#[tactic(auto, unfolding(model::specs::Plan::tremolo_gain))]
 fn tremolo_gain(m: Modulation, sine: f32) -> f32
     ensures { result ≡ tremolo_gain m sine }
 {
@@ -50,6 +53,7 @@ fn phase_on(phase: f32, rate: f32, step: f32) -> f32
 }
 
 // The cutoff moves only where the filter has a depth.
+#[tactic(auto, unfolding(crate::specs::Plans::wobble_of))]
 fn wobble(m: Modulation, bend: f32, cutoff: f32) -> VoiceChange
     ensures { result ≡ wobble_of m bend cutoff }
 {
@@ -67,28 +71,24 @@ fn modulated(design: InstrumentDesign) -> bool
     m.is_active()
 }
 
-// The number of the refusal of a plan with a curve of length `len`, 0 where it is accepted: by what bars a call on
-// the state and by how many voices it has. In a well formed table every voice has the design's copies.
-fn plan_refusal(
-    barred: u8,
+// Whether a state that bars no call and has so many voices plans so many frames into a curve of length `len`.
+#[tactic(auto, unfolding(crate::specs::Plans::plan_fits))]
+fn plan_fits(
+    design: InstrumentDesign,
     frames: usize,
     voices: usize,
-    design: InstrumentDesign,
     len: usize,
-) -> u8
-    requires { barred ≡ 0 → voices ≤ 64 }
-    ensures { result ≡ plan_refusal barred frames voices design len }
+) -> Result<(), Refusal>
+    requires { voices ≤ 64 }
+    ensures { result ≡ plan_fits design frames voices len }
 {
-    if barred != 0 {
-        return barred;
-    }
     if !frames_fit(design, frames) {
-        return 4;
+        return Err(Refusal::Frames);
     }
-    if fills(frames, voices * (design.copies() as usize), len) {
-        0
+    if copies_fill(design, frames, voices, len) {
+        Ok(())
     } else {
-        7
+        Err(Refusal::LentLength)
     }
 }
 
@@ -120,14 +120,16 @@ impl Instrument {
         filter: f32,
         sine: f32,
         curve: &mut [f32],
-    ) -> Outcome
+    ) -> Outcome<Instrument, Reply>
         ensures { PlannedAs self frames vibrato filter sine curve.old curve.new result }
     {
         let design = self.design;
-        let barring = barred(self.well_formed(), self.frames);
-        let number = plan_refusal(barring, frames, self.table.count, design, curve.len());
-        if number != 0 {
-            return refused(self, number);
+        if let Err(refusal) = barred(self.well_formed(), self.frames) {
+            return Outcome::refused(self, refusal);
+        }
+        let fits = plan_fits(design, frames, self.table.count, curve.len());
+        if let Err(refusal) = fits {
+            return Outcome::refused(self, refusal);
         }
         if modulated(design) {
             self = self.apply_modulation(frames, vibrato, filter, sine);
@@ -135,6 +137,6 @@ impl Instrument {
         let glided = self.table.glide(frames, curve);
         self.table = glided;
         self.frames = frames;
-        answered(Reply::Planned, self)
+        Outcome::answered(self, Reply::Planned)
     }
 }

@@ -1,42 +1,46 @@
-use mathlib.Core.Path.{sym, ◌∙◌}
+use mathlib.Core.Path.{refl, ap, sym, ◌∙◌}
 use Rattle.instrument.specs.Calls.{blocked_as}
 use Rattle.instrument.proofs.Sizes.{voices-long, held-long}
-use Rattle.instrument.proofs.Calls.{free, few-voices, barred-by}
+use Rattle.instrument.proofs.Calls.{number_in, free-by, barred-by, bar-number, check-number, check-passed, few-voices}
 use Rattle.instrument.proofs.Plans.{modulated-on, modulated-off, plan-number, plan-refused, plan-fits, plan-done}
 use Rattle.instrument.proofs.Instrument.plan.Goals as goal
 use Rattle.instrument.proofs.Instrument.plan.Goals.{then-modulated, else-modulated}
 
-pub plan_refusal-number-requires : goal.plan_refusal-number-requires
-plan_refusal-number-requires c = λ e. few-voices _ (free _ (sym (barred-by _ _ _ c.well_formed-2.ensures c.barred-barring.ensures) ∙ e)).formed
+pub returns-in-Err : goal.returns-in-Err
+returns-in-Err c =
+    plan-refused _ _ _ _ _ _ _ _ (bar-number _ _ _ _ refl (barred-by _ _ _ c.well_formed-2.ensures c.barred.ensures) c.in-Err.is) c.refused.ensures
 
-pub returns-then-number-ne0 : goal.returns-then-number-ne0
-returns-then-number-ne0 c =
+pub plan_fits-fits-requires : goal.plan_fits-fits-requires
+plan_fits-fits-requires c = few-voices _ (free-by _ _ _ c.well_formed-2.ensures c.barred.ensures c.in_default.not-Err).formed
+
+pub returns-in-Err-fits : goal.returns-in-Err-fits
+returns-in-Err-fits c =
     let x = c.args in
     let s = x.self in
-    let number = plan-number s x.frames x.vibrato x.filter x.sine x.curve.now
-    (voices-long s c.well_formed.0) (held-long s c.well_formed.0) _ _ (barred-by _ _ _ c.well_formed-2.ensures c.barred-barring.ensures) c.plan_refusal-number.ensures in
-    plan-refused _ _ _ _ _ _ _ _ number c.if-number-ne0.true c.refused.ensures
+    let fine = free-by _ _ _ c.well_formed-2.ensures c.barred.ensures c.in_default.not-Err in
+    let number = ap number_in c.plan_fits-fits.ensures
+    ∙ plan-number s x.frames x.vibrato x.filter x.sine x.curve.now (voices-long s c.well_formed.0) (held-long s c.well_formed.0) fine in
+    plan-refused _ _ _ _ _ _ _ _ (check-number _ _ _ _ number c.in-Err-fits.is) c.refused-in-Err-fits.ensures
 
 pub apply_modulation-self-requires : goal.apply_modulation-self-requires
 apply_modulation-self-requires c =
     let x = c.args in
     let s = x.self in
-    let number = plan-number s x.frames x.vibrato x.filter x.sine x.curve.now
-    (voices-long s c.well_formed.0) (held-long s c.well_formed.0) _ _ (barred-by _ _ _ c.well_formed-2.ensures c.barred-barring.ensures) c.plan_refusal-number.ensures in
-    let accepted = sym number ∙ c.if-number-ne0.false in
-    plan-fits _ _ _ _ _ _ accepted
+    let fine = free-by _ _ _ c.well_formed-2.ensures c.barred.ensures c.in_default.not-Err in
+    let number = ap number_in c.plan_fits-fits.ensures
+    ∙ plan-number s x.frames x.vibrato x.filter x.sine x.curve.now (voices-long s c.well_formed.0) (held-long s c.well_formed.0) fine in
+    plan-fits _ _ _ _ _ _ (check-passed _ _ _ number c.in_default-fits.not-Err)
 
 pub returns : goal.returns
 unfolding blocked_as
 returns c =
     let x = c.args in
     let s = x.self in
-    let number = plan-number s x.frames x.vibrato x.filter x.sine x.curve.now
-    (voices-long s c.well_formed.0) (held-long s c.well_formed.0) _ _ (barred-by _ _ _ c.well_formed-2.ensures c.barred-barring.ensures) c.plan_refusal-number.ensures in
-    let accepted = sym number ∙ c.if-number-ne0.false in
+    let fine = free-by _ _ _ c.well_formed-2.ensures c.barred.ensures c.in_default.not-Err in
+    let number = ap number_in c.plan_fits-fits.ensures
+    ∙ plan-number s x.frames x.vibrato x.filter x.sine x.curve.now (voices-long s c.well_formed.0) (held-long s c.well_formed.0) fine in
     let active = c.modulated.ensures in
-    let a = c.args in
-    plan-done a.self a.frames a.vibrato a.filter a.sine _ accepted c.if-modulated.self
+    plan-done x.self x.frames x.vibrato x.filter x.sine _ (check-passed _ _ _ number c.in_default-fits.not-Err) c.if-modulated.self
     ((elim c.if-modulated.branch [
       | then-modulated x ↦ rw x.self-is (modulated-on _ _ _ _ _ _ (sym active ∙ x.if-modulated.true) x.apply_modulation-self.ensures)
       | else-modulated x ↦ rw x.self-is (modulated-off _ _ _ _ _ (sym active ∙ x.if-modulated.false))

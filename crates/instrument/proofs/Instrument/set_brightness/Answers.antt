@@ -1,14 +1,13 @@
-use mathlib.Core.Path.{refl, sym, ◌∙◌}
-use Rattle.instrument.proofs.Calls.{Free, free, barred-by, barred-call}
+use mathlib.Core.Path.{refl}
+use Rattle.instrument.proofs.Calls.{free-by, barred-call}
 use Rattle.instrument.specs.Calls.{tuned_as}
 use Rattle.instrument.proofs.Controls.{brightness-call}
 use Rattle.instrument.proofs.Instrument.set_brightness.Goals as goal
 
-pub returns-then-number-ne0 : goal.returns-then-number-ne0
-returns-then-number-ne0 c = barred-call _ _ _ _ refl (barred-by _ _ _ c.well_formed-2.ensures c.barred-number.ensures) c.if-number-ne0.true c.refused.ensures
+pub returns-in-Err : goal.returns-in-Err
+returns-in-Err c = barred-call _ _ _ _ _ _ refl c.well_formed-2.ensures c.barred.ensures c.in-Err.is c.refused.ensures
 
 pub returns : goal.returns
 unfolding tuned_as
 returns c =
-    let fine : Free c.args.self = free _ (sym (barred-by _ _ _ c.well_formed-2.ensures c.barred-number.ensures) ∙ c.if-number-ne0.false) in
-    brightness-call _ fine _ _ _ _ c.max-least.ensures c.change_all-cut.ensures c.answered.ensures
+    brightness-call _ (free-by _ _ _ c.well_formed-2.ensures c.barred.ensures c.in_default.not-Err) _ _ _ _ c.max-least.ensures c.change_all-cut.ensures c.answered.ensures
