@@ -2,7 +2,8 @@
 
 use crate::{build, sums};
 use instrument::{Instrument, MixOutcome, MixReply};
-use midi::{Answer, Cursor};
+use midi::{Cursor, Event};
+use outcome::Refusal;
 
 // After each plan the block is closed by hand, so that the next plan may open one.
 pub fn plans(start: Instrument, frames: usize, turns: usize, curve: &mut [f32]) -> Instrument {
@@ -40,16 +41,22 @@ pub fn mixes(
     s
 }
 
-fn told(sum: u64, answer: Answer) -> u64 {
-    match answer {
-        Answer::On(note, velocity) => kind(kind(sum, 1, note as u64), 1, sums::bits(velocity)),
-        Answer::Off(note) => kind(sum, 2, note as u64),
-        Answer::Pedal(down) => kind(sum, 3, sums::flag(down)),
-        Answer::AllOff => kind(sum, 4, 0),
-        Answer::Bend(b) => kind(sum, 5, b as u64),
-        Answer::Other => kind(sum, 6, 0),
-        Answer::End => kind(sum, 7, 0),
-        Answer::Refused(n) => kind(sum, 8, n as u64),
+fn told(sum: u64, reply: Result<Option<Event>, Refusal>) -> u64 {
+    match reply {
+        Ok(Some(event)) => told_event(sum, event),
+        Ok(None) => kind(sum, 7, 0),
+        Err(refusal) => kind(sum, 8, refusal.number() as u64),
+    }
+}
+
+fn told_event(sum: u64, event: Event) -> u64 {
+    match event {
+        Event::On(note, velocity) => kind(kind(sum, 1, note as u64), 1, sums::bits(velocity)),
+        Event::Off(note) => kind(sum, 2, note as u64),
+        Event::Pedal(down) => kind(sum, 3, sums::flag(down)),
+        Event::AllOff => kind(sum, 4, 0),
+        Event::Bend(b) => kind(sum, 5, b as u64),
+        Event::Other => kind(sum, 6, 0),
     }
 }
 
@@ -57,23 +64,17 @@ fn kind(sum: u64, kind: u64, value: u64) -> u64 {
     sums::add(sums::add(sum, kind), value)
 }
 
-// Every event of a stream, to its end or a refusal.
+// Every event of a stream, to its end. A refusal is told as often as bytes are left.
 fn stream(start: u64, bytes: &[u8]) -> u64 {
     let mut sum = start;
-    let mut cursor = Cursor {
-        place: 0,
-        status: 0,
-    };
-    let mut i: usize = 0;
-    while i < bytes.len() {
-        let o = midi::step(bytes, cursor);
-        let answer = o.answer;
-        sum = told(sum, answer);
-        if let Answer::End = answer {
+    let mut cursor = Cursor::default();
+    for _ in bytes {
+        let found = midi::step(bytes, cursor);
+        sum = told(sum, found.reply);
+        if let Ok(None) = found.reply {
             return sum;
         }
-        cursor = o.cursor;
-        i += 1;
+        cursor = found.state;
     }
     sum
 }

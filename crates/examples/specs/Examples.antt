@@ -1,6 +1,6 @@
 -- Document 01's examples ("Examples to prove together"): one table, E1 to E13, of inputs and what the definitions make of them.
 -- Where 01 names no number, the line holds for all of them, or takes the script's.
-use Rattle.std.specs.Prelude.{◌≡◌, Bool, true, false, List, [], ◌∷◌, ◌++◌, map, ℕ, zero, suc, Float, length, replicate, Option, Ok}
+use Rattle.std.specs.Prelude.{◌≡◌, Bool, true, false, List, [], ◌∷◌, ◌++◌, map, ℕ, zero, suc, Float, length, replicate, Option, Ok, Err}
 use Rattle.std.specs.Float.{nan, binary32}
 use Rattle.std.specs.Float.Ieee.{of_bits}
 use Rattle.float32.specs.Numbers.{zero as +0, one}
@@ -20,7 +20,9 @@ use Rattle.model.specs.Types.{Reply.started, Reply.kept as keeps, Reply.off, Rep
 use Rattle.model.specs.Step.{step}
 use Rattle.model.specs.Start.{fresh, start_of}
 use Rattle.model.specs.Runs.{after, replies}
-use Rattle.midi.specs.declared.Answer.TheVariants.{On, Off, End, Refused}
+use Rattle.outcome.specs.declared.Refusal.TheVariants.{CutShort}
+use Rattle.midi.specs.declared.Event.TheVariants.{On, Off}
+use Rattle.midi.specs.Answers.{told, ended}
 use Rattle.midi.specs.Streams.{answers_of}
 
 -- ---- a list of calls from a start
@@ -129,8 +131,8 @@ pub record WorkedExamples : Type 0 where
       (started 1 0 0 ∷ keeps 1 ∷ off true ∷ [])
       (row 1 60 false false +0 ∷ [])
   -- E11 "90 3C 40 F8 3E 40: two ons"
-  pub e11 : answers_of (0x90 ∷ 0x3C ∷ 0x40 ∷ 0xF8 ∷ 0x3E ∷ 0x40 ∷ []) ≡ On 60 (of_bits binary32 0x3f01_0204) ∷ On 62 (of_bits binary32 0x3f01_0204) ∷ End ∷ []
+  pub e11 : answers_of (0x90 ∷ 0x3C ∷ 0x40 ∷ 0xF8 ∷ 0x3E ∷ 0x40 ∷ []) ≡ told (On 60 (of_bits binary32 0x3f01_0204)) ∷ told (On 62 (of_bits binary32 0x3f01_0204)) ∷ ended ∷ []
   -- E12 "90 3C 00: off"
-  pub e12 : answers_of (0x90 ∷ 0x3C ∷ 0x00 ∷ []) ≡ Off 60 ∷ End ∷ []
+  pub e12 : answers_of (0x90 ∷ 0x3C ∷ 0x00 ∷ []) ≡ told (Off 60) ∷ ended ∷ []
   -- E13 "90 3C: refusal 10"
-  pub e13 : answers_of (0x90 ∷ 0x3C ∷ []) ≡ Refused 10 ∷ []
+  pub e13 : answers_of (0x90 ∷ 0x3C ∷ []) ≡ Err CutShort ∷ []

@@ -1,11 +1,12 @@
 -- What the envelope's tick and the MIDI step promise to a host (document 01, "envelope.rs" and "MIDI bytes").
-use Rattle.std.specs.Prelude.{◌≡◌, true, false, cond, ℕ, Float}
+use Rattle.std.specs.Prelude.{◌≡◌, true, false, cond, ℕ, Float, Some, None, Ok, Err}
 use Rattle.float32.specs.Numbers.{zero as +0}
 use Rattle.envelope.specs.Ticks.{ticked}
-use Rattle.midi.specs.declared.Answer.{Answer}
-use Rattle.midi.specs.declared.Answer.TheVariants.{On, Off, Pedal, AllOff, Bend, Other, End, Refused}
+use Rattle.outcome.specs.Numbers.{number_of}
+use Rattle.midi.specs.declared.Event.TheVariants.{On, Off, Pedal, AllOff, Bend, Other}
 use Rattle.midi.specs.declared.Cursor.{Cursor}
-use Rattle.midi.specs.declared.Outcome.{Outcome}
+use Rattle.midi.specs.Answers.{Answer}
+use Rattle.midi.specs.Steps.{Stepped}
 use Rattle.wire.specs.declared.HostEnv.{HostEnv}
 use Rattle.wire.specs.Reads.{stage_numbered, env_of}
 use Rattle.host.specs.Said.{flag_number}
@@ -33,14 +34,14 @@ event_at c kind number note velocity down bend = record {
 
 -- the number and values of each answer, at the cursor behind it
 abbrev pub event_in : Cursor → Answer → HostEvent
-event_in c (Refused n) = event_at c 0 n 0 +0 0 0
-event_in c (On note velocity) = event_at c 1 0 note velocity 0 0
-event_in c (Off note) = event_at c 2 0 note +0 0 0
-event_in c (Pedal down) = event_at c 3 0 0 +0 (flag_number down) 0
-event_in c AllOff = event_at c 4 0 0 +0 0 0
-event_in c (Bend value) = event_at c 5 0 0 +0 0 value
-event_in c Other = event_at c 6 0 0 +0 0 0
-event_in c End = event_at c 7 0 0 +0 0 0
+event_in c (Err r) = event_at c 0 (number_of r) 0 +0 0 0
+event_in c (Ok (Some (On note velocity))) = event_at c 1 0 note velocity 0 0
+event_in c (Ok (Some (Off note))) = event_at c 2 0 note +0 0 0
+event_in c (Ok (Some (Pedal down))) = event_at c 3 0 0 +0 (flag_number down) 0
+event_in c (Ok (Some AllOff)) = event_at c 4 0 0 +0 0 0
+event_in c (Ok (Some (Bend value))) = event_at c 5 0 0 +0 0 value
+event_in c (Ok (Some Other)) = event_at c 6 0 0 +0 0 0
+event_in c (Ok None) = event_at c 7 0 0 +0 0 0
 
-abbrev pub event_of : Outcome → HostEvent
-event_of o = event_in o.cursor o.answer
+abbrev pub event_of : Stepped → HostEvent
+event_of o = event_in o.state o.reply

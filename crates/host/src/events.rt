@@ -2,10 +2,10 @@
 
 ghost use Rattle.std.specs.Prelude.{◌≡◌};
 ghost use Rattle.midi.specs.Steps.{cursor_at, stepped};
-ghost use Rattle.host.specs.Events.{HostTickAs, event_at, event_in, event_of};
+ghost use Rattle.host.specs.Events.{HostTickAs, event_of};
 
-use crate::flag_number;
-use midi::{Answer, Cursor};
+use midi::{Cursor, Event};
+use outcome::Outcome;
 use wire::HostEnv;
 
 #[repr(C)]
@@ -45,41 +45,49 @@ pub fn cirstumbe_env_tick(env: HostEnv) -> HostEnvOutcome
     }
 }
 
-fn event(
-    cursor: Cursor,
-    kind: u32,
-    number: u32,
-    note: u8,
-    velocity: f32,
-    down: u32,
-    bend: u32,
-) -> HostEvent
-    ensures { result ≡ event_at cursor kind number note velocity down bend }
+// What a step found, at the cursor behind it.
+fn event_of(found: Outcome<Cursor, Option<Event>>) -> HostEvent
+    ensures { result ≡ event_of found }
 {
-    HostEvent {
-        kind,
-        number,
-        place: cursor.place,
-        velocity,
-        bend,
-        down,
-        status: cursor.status,
-        note,
-    }
-}
-
-fn event_in(c: Cursor, answer: Answer) -> HostEvent
-    ensures { result ≡ event_in c answer }
-{
-    match answer {
-        Answer::Refused(number) => event(c, 0, number as u32, 0, 0.0, 0, 0),
-        Answer::On(note, velocity) => event(c, 1, 0, note, velocity, 0, 0),
-        Answer::Off(note) => event(c, 2, 0, note, 0.0, 0, 0),
-        Answer::Pedal(down) => event(c, 3, 0, 0, 0.0, flag_number(down), 0),
-        Answer::AllOff => event(c, 4, 0, 0, 0.0, 0, 0),
-        Answer::Bend(bend) => event(c, 5, 0, 0, 0.0, 0, bend as u32),
-        Answer::Other => event(c, 6, 0, 0, 0.0, 0, 0),
-        Answer::End => event(c, 7, 0, 0, 0.0, 0, 0),
+    let unnamed = HostEvent {
+        kind: 0,
+        number: 0,
+        place: found.state.place,
+        velocity: 0.0,
+        bend: 0,
+        down: 0,
+        status: found.state.status,
+        note: 0,
+    };
+    match found.reply {
+        Err(refusal) => HostEvent {
+            number: u32::from(refusal.number()),
+            ..unnamed
+        },
+        Ok(Some(Event::On(note, velocity))) => HostEvent {
+            kind: 1,
+            note,
+            velocity,
+            ..unnamed
+        },
+        Ok(Some(Event::Off(note))) => HostEvent {
+            kind: 2,
+            note,
+            ..unnamed
+        },
+        Ok(Some(Event::Pedal(down))) => HostEvent {
+            kind: 3,
+            down: u32::from(down),
+            ..unnamed
+        },
+        Ok(Some(Event::AllOff)) => HostEvent { kind: 4, ..unnamed },
+        Ok(Some(Event::Bend(bend))) => HostEvent {
+            kind: 5,
+            bend: u32::from(bend),
+            ..unnamed
+        },
+        Ok(Some(Event::Other)) => HostEvent { kind: 6, ..unnamed },
+        Ok(None) => HostEvent { kind: 7, ..unnamed },
     }
 }
 
@@ -87,8 +95,6 @@ fn event_in(c: Cursor, answer: Answer) -> HostEvent
 pub fn cirstumbe_midi_step(stream: &[u8], place: usize, status: u8) -> HostEvent
     ensures { result ≡ event_of (stepped stream.now (cursor_at place status)) }
 {
-    let stepped = midi::step(stream, Cursor { place, status });
-    let cursor = stepped.cursor;
-    let answer = stepped.answer;
-    event_in(cursor, answer)
+    let found = midi::step(stream, Cursor { place, status });
+    event_of(found)
 }

@@ -1,8 +1,8 @@
 // What is printed of a reply.
 
 use instrument::{Answer, Reply};
-use midi::Cursor;
-use outcome::Refusal;
+use midi::{Cursor, Event};
+use outcome::{Outcome, Refusal};
 use patterns::{Form, flag};
 
 // The places in the list of `say`.
@@ -112,17 +112,23 @@ pub fn of_answer(answer: Answer) -> Form {
 }
 
 // Where the reader ends it prints its cursor.
-pub fn of_step(answer: midi::Answer, cursor: Cursor) -> Form {
-    let place = cursor.place as u64;
-    let status = cursor.status as u64;
-    match answer {
-        midi::Answer::On(note, velocity) => form(ON, note as u64, patterns::bits(velocity), 0),
-        midi::Answer::Off(note) => form(OFF, note as u64, 0, 0),
-        midi::Answer::Pedal(down) => form(PEDAL, flag(down), 0, 0),
-        midi::Answer::AllOff => form(ALL_OFF, 0, 0, 0),
-        midi::Answer::Bend(value) => form(BEND, value as u64, 0, 0),
-        midi::Answer::Other => form(OTHER, 0, 0, 0),
-        midi::Answer::End => form(END, place, status, 0),
-        midi::Answer::Refused(n) => form(REFUSED_AT, n as u64, place, status),
+pub fn of_step(found: Outcome<Cursor, Option<Event>>) -> Form {
+    let place = found.state.place as u64;
+    let status = found.state.status as u64;
+    match found.reply {
+        Ok(Some(event)) => of_event(event),
+        Ok(None) => form(END, place, status, 0),
+        Err(refusal) => form(REFUSED_AT, refusal.number() as u64, place, status),
+    }
+}
+
+fn of_event(event: Event) -> Form {
+    match event {
+        Event::On(note, velocity) => form(ON, note as u64, patterns::bits(velocity), 0),
+        Event::Off(note) => form(OFF, note as u64, 0, 0),
+        Event::Pedal(down) => form(PEDAL, flag(down), 0, 0),
+        Event::AllOff => form(ALL_OFF, 0, 0, 0),
+        Event::Bend(value) => form(BEND, value as u64, 0, 0),
+        Event::Other => form(OTHER, 0, 0, 0),
     }
 }

@@ -3,31 +3,15 @@
 ghost use Rattle.std.specs.Prelude.{◌≡◌, length};
 
 use crate::said;
-use midi::{Answer, Cursor};
+use midi::Cursor;
 use patterns::{Form, byte_of};
 
-fn is_last(answer: Answer) -> bool {
-    match answer {
-        Answer::End => true,
-        Answer::Refused(_) => true,
-        _ => false,
-    }
-}
-
-// Each event takes a byte of at most 100, so the count is never used up.
 fn walk(stream: &[u8], from: Cursor, out: &mut [u8], at: usize) -> usize {
-    let mut cursor = from;
-    let mut next = at;
-    let mut turns: usize = 101;
-    while turns > 0 {
-        let outcome = midi::step(stream, cursor);
-        let answer = outcome.answer;
-        cursor = outcome.cursor;
-        next = said::say(out, next, said::of_step(answer, cursor));
-        if is_last(answer) {
-            return next;
-        }
-        turns -= 1;
+    let mut found = midi::step(stream, from);
+    let mut next = said::say(out, at, said::of_step(found));
+    while let Ok(Some(_)) = found.reply {
+        found = midi::step(stream, found.state);
+        next = said::say(out, next, said::of_step(found));
     }
     next
 }

@@ -1,9 +1,8 @@
-use mathlib.Core.Path.{◌≡◌}
-use lib.ListN.{length}
+use Rattle.midi.proofs.Whole.{left_over, Inside}
 use Rattle.replay.proofs.steps.walk.Given as goal
 
-abbrev pub invariant-loop-turns : goal.invariant-loop-turns
-invariant-loop-turns l = length l.out ≡ length l.initial.out
+abbrev pub invariant-loop-found : goal.invariant-loop-found
+invariant-loop-found l = Inside l.stream l.found
 
-abbrev pub decreases-loop-turns : goal.decreases-loop-turns
-decreases-loop-turns l = l.turns
+abbrev pub decreases-loop-found : goal.decreases-loop-found
+decreases-loop-found l = left_over l.stream l.found
