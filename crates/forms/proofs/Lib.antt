@@ -1,2 +1,3 @@
 mod Chains
-mod Wholes
+mod Modes
+mod Lines

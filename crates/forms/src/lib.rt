@@ -1,257 +1,192 @@
-// The forms of the script program, read from a line.
+// The forms of the script program, read from a line. A reader of a part gives the place behind the part too.
 
 #![tactic(auto)]
 
-ghost use Rattle.std.specs.Prelude.{◌≡◌, true, false, [], ◌<◌};
-ghost use Rattle.text.specs.Read.{Any};
-ghost use Rattle.forms.specs.Forms.{mode_text, FormAs};
-ghost use Rattle.forms.specs.Led.{LedAs, LedWords, LedEnd, LedDecimal, LedMode, LedWord, SoundReadAs, DesignReadAs, OnReadAs};
+ghost use Rattle.std.specs.Prelude.{◌↔◌, IsTrue, length};
+ghost use Rattle.text.specs.Read.{Stands};
+ghost use Rattle.forms.specs.Forms.{FormAs};
+ghost use Rattle.forms.specs.Parts.{LedDecimal, LedWord, ModeAs, AmpAs, ModulationAs, DesignAs, OnAs};
 
-use text::Read;
+use design::PlayMode;
 
-// The numbers of a design line, in its order; floats as their bits.
+// Seconds, seconds, a level, seconds. A float is read as its bits.
+#[derive(Clone, Copy)]
+pub struct AmpForm {
+    pub a: u32,
+    pub d: u32,
+    pub s: u32,
+    pub r: u32,
+}
+
+#[derive(Clone, Copy)]
+pub struct ModulationForm {
+    pub vibrato_rate: u32,
+    pub vibrato_cents: u32,
+    pub tremolo_rate: u32,
+    pub tremolo_depth: u32,
+    pub filter_rate: u32,
+    pub filter_octaves: u32,
+}
+
+// A design line, in its order.
 #[derive(Clone, Copy)]
 pub struct DesignForm {
-    pub rate: u64,
-    pub max: u64,
-    // 0 poly, 1 mono, 2 legato
-    pub mode: u64,
-    pub unison: u64,
-    pub width: u64,
-    pub a: u64,
-    pub d: u64,
-    pub s: u64,
-    pub r: u64,
-    pub glide: u64,
-    pub vibrato_rate: u64,
-    pub vibrato_cents: u64,
-    pub tremolo_rate: u64,
-    pub tremolo_depth: u64,
-    pub filter_rate: u64,
-    pub filter_octaves: u64,
+    pub rate: u32,
+    pub max: u32,
+    pub mode: PlayMode,
+    pub unison: u32,
+    pub width: u32,
+    pub amp: AmpForm,
+    pub glide: u32,
+    pub modulation: ModulationForm,
 }
 
 #[derive(Clone, Copy)]
 pub struct OnForm {
-    pub note: u64,
-    pub velocity: u64,
-    pub built: u64,
+    pub note: u8,
+    pub velocity: u32,
+    pub built: bool,
 }
 
 #[derive(Clone, Copy)]
 pub enum Form {
-    Unread,
     Design(DesignForm),
     On(OnForm),
     Voices,
 }
 
-// The numbers of a design line from `amp` on.
-#[derive(Clone, Copy)]
-struct SoundRead {
-    ok: bool,
-    next: usize,
-    a: u64,
-    d: u64,
-    s: u64,
-    r: u64,
-    glide: u64,
-    vibrato_rate: u64,
-    vibrato_cents: u64,
-    tremolo_rate: u64,
-    tremolo_depth: u64,
-    filter_rate: u64,
-    filter_octaves: u64,
-}
-
-#[derive(Clone, Copy)]
-struct DesignRead {
-    ok: bool,
-    form: DesignForm,
-}
-
-#[derive(Clone, Copy)]
-struct OnRead {
-    ok: bool,
-    form: OnForm,
-}
-
-// Decimals but the note and `built`.
-const MOST: u64 = 0xFFFF_FFFF;
-
-fn read_at(ok: bool, value: u64, next: usize) -> Read
-    ensures { result ≡ record { ok = ok; value = value; next = next } }
+fn led_decimal(line: &[u8], at: usize, lead: &[u8], most: u64) -> Option<(u64, usize)>
+    ensures { LedDecimal lead.now most line.now at result }
 {
-    Read { ok, value, next }
+    let at = text::literal(line, at, lead)?;
+    text::decimal(line, at, most)
 }
 
-fn led_words(line: &[u8], from: Read, words: &[u8]) -> Read
-    ensures { LedWords words.now line.now from result }
+fn led_number(line: &[u8], at: usize, lead: &[u8]) -> Option<(u32, usize)>
+    ensures { LedDecimal lead.now u32.MAX line.now at result }
 {
-    if !from.ok {
-        return from;
+    let (n, next) = led_decimal(line, at, lead, u32::MAX as u64)?;
+    Some((n as u32, next))
+}
+
+fn led_word(line: &[u8], at: usize, lead: &[u8]) -> Option<(u32, usize)>
+    ensures { LedWord lead.now line.now at result }
+{
+    let at = text::literal(line, at, lead)?;
+    text::word(line, at)
+}
+
+fn mode(line: &[u8], at: usize) -> Option<(PlayMode, usize)>
+    ensures { ModeAs line.now at result }
+{
+    let at = text::literal(line, at, b") (mode ")?;
+    if let Some(next) = text::literal(line, at, b"poly") {
+        return Some((PlayMode::Poly, next));
     }
-    text::literal(line, from.next, words)
-}
-
-fn led_end(line: &[u8], from: Read, words: &[u8]) -> Read
-    ensures { LedEnd words.now line.now from result }
-{
-    let found = led_words(line, from, words);
-    if found.next == line.len() {
-        return found;
+    if let Some(next) = text::literal(line, at, b"mono") {
+        return Some((PlayMode::Mono { legato: false }, next));
     }
-    read_at(false, 0, 0)
+    let next = text::literal(line, at, b"legato")?;
+    Some((PlayMode::Mono { legato: true }, next))
 }
 
-fn led_decimal(line: &[u8], from: Read, lead: &[u8], most: u64) -> Read
-    ensures { LedDecimal lead.now most line.now from result }
+fn amp(line: &[u8], at: usize) -> Option<(AmpForm, usize)>
+    ensures { AmpAs line.now at result }
 {
-    let led = led_words(line, from, lead);
-    if !led.ok {
-        return led;
-    }
-    text::decimal(line, led.next, most)
+    let (a, at) = led_word(line, at, b") (amp ")?;
+    let (d, at) = led_word(line, at, b" ")?;
+    let (s, at) = led_word(line, at, b" ")?;
+    let (r, at) = led_word(line, at, b" ")?;
+    Some((AmpForm { a, d, s, r }, at))
 }
 
-fn led_word(line: &[u8], from: Read, lead: &[u8]) -> Read
-    ensures { LedWord lead.now line.now from result }
+fn modulation(line: &[u8], at: usize) -> Option<(ModulationForm, usize)>
+    ensures { ModulationAs line.now at result }
 {
-    let led = led_words(line, from, lead);
-    if !led.ok {
-        return led;
-    }
-    text::word(line, led.next)
+    let (vibrato_rate, at) = led_word(line, at, b") (mod ")?;
+    let (vibrato_cents, at) = led_word(line, at, b" ")?;
+    let (tremolo_rate, at) = led_word(line, at, b" ")?;
+    let (tremolo_depth, at) = led_word(line, at, b" ")?;
+    let (filter_rate, at) = led_word(line, at, b" ")?;
+    let (filter_octaves, at) = led_word(line, at, b" ")?;
+    let form = ModulationForm {
+        vibrato_rate,
+        vibrato_cents,
+        tremolo_rate,
+        tremolo_depth,
+        filter_rate,
+        filter_octaves,
+    };
+    Some((form, at))
 }
 
-fn mode(line: &[u8], from: Read) -> Read
-    ensures { LedAs mode_text (λ v. v < 3) Any line.now from result }
+// Whether the words stand there and end the line.
+fn ends(line: &[u8], at: usize, words: &[u8]) -> bool
+    ensures { IsTrue result ↔ Stands words.now line.now at (length line.now) }
 {
-    let poly = led_words(line, from, b"poly");
-    if poly.ok {
-        return read_at(true, 0, poly.next);
-    }
-    let mono = led_words(line, from, b"mono");
-    if mono.ok {
-        return read_at(true, 1, mono.next);
-    }
-    let legato = led_words(line, from, b"legato");
-    read_at(legato.ok, 2, legato.next)
-}
-
-fn led_mode(line: &[u8], from: Read, lead: &[u8]) -> Read
-    ensures { LedMode lead.now line.now from result }
-{
-    let led = led_words(line, from, lead);
-    mode(line, led)
-}
-
-fn read_on(line: &[u8]) -> OnRead
-    ensures { OnReadAs line.now result }
-{
-    let begin = read_at(true, 0, 0);
-    let note = led_decimal(line, begin, b"(on ", 255);
-    let velocity = led_word(line, note, b" ");
-    let built = led_decimal(line, velocity, b" ", 1);
-    let end = led_end(line, built, b")");
-    OnRead {
-        ok: end.ok,
-        form: OnForm {
-            note: note.value,
-            velocity: velocity.value,
-            built: built.value,
-        },
+    match text::literal(line, at, words) {
+        Some(next) => next == line.len(),
+        None => false,
     }
 }
 
-// The second half of a design line, to the line's end.
-fn read_sound(line: &[u8], from: Read) -> SoundRead
-    ensures { SoundReadAs line.now from result }
+fn on_line(line: &[u8]) -> Option<OnForm>
+    ensures { OnAs line.now result }
 {
-    let a = led_word(line, from, b") (amp ");
-    let d = led_word(line, a, b" ");
-    let s = led_word(line, d, b" ");
-    let r = led_word(line, s, b" ");
-    let glide = led_word(line, r, b") (glide ");
-    let vibrato_rate = led_word(line, glide, b") (mod ");
-    let vibrato_cents = led_word(line, vibrato_rate, b" ");
-    let tremolo_rate = led_word(line, vibrato_cents, b" ");
-    let tremolo_depth = led_word(line, tremolo_rate, b" ");
-    let filter_rate = led_word(line, tremolo_depth, b" ");
-    let filter_octaves = led_word(line, filter_rate, b" ");
-    let end = led_end(line, filter_octaves, b"))");
-    SoundRead {
-        ok: end.ok,
-        next: end.next,
-        a: a.value,
-        d: d.value,
-        s: s.value,
-        r: r.value,
-        glide: glide.value,
-        vibrato_rate: vibrato_rate.value,
-        vibrato_cents: vibrato_cents.value,
-        tremolo_rate: tremolo_rate.value,
-        tremolo_depth: tremolo_depth.value,
-        filter_rate: filter_rate.value,
-        filter_octaves: filter_octaves.value,
+    let (note, at) = led_decimal(line, 0, b"(on ", 255)?;
+    let (velocity, at) = led_word(line, at, b" ")?;
+    let (built, at) = led_decimal(line, at, b" ", 1)?;
+    if !ends(line, at, b")") {
+        return None;
     }
+    Some(OnForm {
+        note: note as u8,
+        velocity,
+        built: built == 1,
+    })
 }
 
-fn read_design(line: &[u8]) -> DesignRead
-    ensures { DesignReadAs line.now result }
+fn design_line(line: &[u8]) -> Option<DesignForm>
+    ensures { DesignAs line.now result }
 {
-    let begin = read_at(true, 0, 0);
-    let rate = led_decimal(line, begin, b"(design (rate ", MOST);
-    let max = led_decimal(line, rate, b") (max ", MOST);
-    let mode = led_mode(line, max, b") (mode ");
-    let unison = led_decimal(line, mode, b") (unison ", MOST);
-    let width = led_word(line, unison, b" ");
-    let sound = read_sound(line, width);
-    DesignRead {
-        ok: sound.ok,
-        form: DesignForm {
-            rate: rate.value,
-            max: max.value,
-            mode: mode.value,
-            unison: unison.value,
-            width: width.value,
-            a: sound.a,
-            d: sound.d,
-            s: sound.s,
-            r: sound.r,
-            glide: sound.glide,
-            vibrato_rate: sound.vibrato_rate,
-            vibrato_cents: sound.vibrato_cents,
-            tremolo_rate: sound.tremolo_rate,
-            tremolo_depth: sound.tremolo_depth,
-            filter_rate: sound.filter_rate,
-            filter_octaves: sound.filter_octaves,
-        },
+    let (rate, at) = led_number(line, 0, b"(design (rate ")?;
+    let (max, at) = led_number(line, at, b") (max ")?;
+    let (mode, at) = mode(line, at)?;
+    let (unison, at) = led_number(line, at, b") (unison ")?;
+    let (width, at) = led_word(line, at, b" ")?;
+    let (amp, at) = amp(line, at)?;
+    let (glide, at) = led_word(line, at, b") (glide ")?;
+    let (modulation, at) = modulation(line, at)?;
+    if !ends(line, at, b"))") {
+        return None;
     }
+    Some(DesignForm {
+        rate,
+        max,
+        mode,
+        unison,
+        width,
+        amp,
+        glide,
+        modulation,
+    })
 }
 
 // The form whose text the line is.
-#[tactic(auto, using(crate::proofs::Wholes::too_long))]
-pub fn read(line: &[u8]) -> Form
+pub fn read(line: &[u8]) -> Option<Form>
     ensures { FormAs line.now result }
 {
     if line.len() > 256 {
-        return Form::Unread;
+        return None;
     }
-    let design = read_design(line);
-    if design.ok {
-        let form = design.form;
-        return Form::Design(form);
+    if let Some(form) = design_line(line) {
+        return Some(Form::Design(form));
     }
-    let on = read_on(line);
-    if on.ok {
-        let form = on.form;
-        return Form::On(form);
+    if let Some(form) = on_line(line) {
+        return Some(Form::On(form));
     }
-    let begin = read_at(true, 0, 0);
-    let voices = led_end(line, begin, b"(voices)");
-    if voices.ok {
-        return Form::Voices;
+    if ends(line, 0, b"(voices)") {
+        return Some(Form::Voices);
     }
-    Form::Unread
+    None
 }

@@ -1,4 +1,4 @@
-mod Once
+pub mod Once
 mod Spelt
 mod Decimals
 mod Words

@@ -1,10 +1,10 @@
--- `forms::led_decimal` meets its contract: the words, then the number.
-use borrow.Author.Tests.{not-true, not-false}
-use Rattle.forms.proofs.Chains.{stopped, led-read, lead}
+use Rattle.forms.proofs.Chains.{lead, lead-none}
 use Rattle.forms.proofs.led_decimal.Goals as goal
 
-pub returns-then-not-led : goal.returns-then-not-led
-returns-then-not-led c = lead _ _ _ _ _ c.led_words-led.ensures (stopped _ _ _ _ _ _ _ _ _ (not-true _ c.if-not-led.true) (not-true _ c.if-not-led.true))
+-- `forms::led_decimal` meets its contract: the words, then the number.
+
+pub returns-in_err-at : goal.returns-in_err-at
+returns-in_err-at c = rw c.from_residual.ensures (lead-none _ _ _ _ _ _ c.in_err-at.ensures)
 
 pub returns : goal.returns
-returns c = lead _ _ _ _ _ c.led_words-led.ensures (led-read _ _ _ _ _ _ _ (not-false _ c.if-not-led.false) c.decimal.ensures)
+returns c = lead _ _ _ _ _ _ _ _ c.in_ok-at.ensures c.decimal.ensures

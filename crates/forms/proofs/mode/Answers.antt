@@ -1,16 +1,25 @@
--- `forms::mode` meets its contract: the first of the three words that stands there.
-use Rattle.forms.proofs.Chains.{is-poly, is-mono, is-legato}
+use Rattle.design.specs.declared.PlayMode.TheVariants.{Poly, Mono}
+use mathlib.Core.Bool.{true, false}
+use Rattle.forms.specs.Forms.{then_mode}
+use Rattle.forms.proofs.Chains.{lead, lead-none}
+use Rattle.forms.proofs.Modes.{mode-some, mode-none}
 use Rattle.forms.proofs.mode.Goals as goal
 
-pub returns-then-poly : goal.returns-then-poly
-returns-then-poly c = rw c.read_at.ensures (is-poly _ _ _ _ _ _ c.led_words-poly.ensures c.if-poly.true)
+-- `forms::mode` meets its contract: the words, then the one of the three that stands there.
 
-pub returns-then-mono : goal.returns-then-mono
-returns-then-mono c =
-    rw c.read_at-then-mono.ensures
-    (is-mono _ _ _ _ _ _ c.led_words-poly.ensures c.if-poly.false _ _ _ c.led_words-mono.ensures c.if-mono.true)
+pub returns-in_err-at : goal.returns-in_err-at
+returns-in_err-at c = rw c.from_residual.ensures (lead-none then_mode _ _ _ _ _ c.in_err-at.ensures)
+
+pub returns-in-Some : goal.returns-in-Some
+returns-in-Some c = lead then_mode _ _ _ _ _ _ _ c.in_ok-at.ensures (mode-some _ _ Poly _ c.in-Some.ensures)
+
+pub returns-in-Some-literal : goal.returns-in-Some-literal
+returns-in-Some-literal c = lead then_mode _ _ _ _ _ _ _ c.in_ok-at.ensures (mode-some _ _ (Mono false) _ c.in-Some-literal.ensures)
+
+pub returns-in_err-next : goal.returns-in_err-next
+returns-in_err-next c =
+    rw c.from_residual-in_err-next.ensures
+    (lead then_mode _ _ _ _ _ _ _ c.in_ok-at.ensures (mode-none _ _ c.in_default.ensures c.in_default-literal.ensures c.in_err-next.ensures))
 
 pub returns : goal.returns
-returns c =
-    rw c.read_at-2.ensures
-    (is-legato _ _ _ _ _ _ c.led_words-poly.ensures c.if-poly.false _ _ _ c.led_words-mono.ensures c.if-mono.false _ _ _ c.led_words-legato.ensures)
+returns c = lead then_mode _ _ _ _ _ _ _ c.in_ok-at.ensures (mode-some _ _ (Mono true) _ c.in_ok-next.ensures)

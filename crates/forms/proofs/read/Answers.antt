@@ -1,21 +1,17 @@
--- `forms::read` meets its contract: one law for each way out.
-use native.Mathlib.Omega.{arith}
-use Rattle.forms.proofs.Wholes.{is-design, is-on, is-voices, is_none}
+use mathlib.Core.Path.{refl}
+use Rattle.forms.proofs.Lines.{is-design, is-on, is-voices, is_none}
 use Rattle.forms.proofs.read.Goals as goal
 
-pub returns-then-design : goal.returns-then-design
-returns-then-design c = is-design _ (omega arith) _ c.read_design-design.ensures c.if-design.true
+-- `forms::read` meets its contract: one law for each way out.
 
-pub returns-then-on : goal.returns-then-on
-returns-then-on c =
-    is-on _ (omega arith) _ c.read_design-design.ensures c.if-design.false _ c.read_on-on.ensures c.if-on.true
+pub returns-in-Some : goal.returns-in-Some
+returns-in-Some c = is-design _ c.if-line-gt256.false _ c.in-Some.ensures
 
-pub returns-then-voices : goal.returns-then-voices
-returns-then-voices c =
-    is-voices _ (omega arith) _ c.read_design-design.ensures c.if-design.false _ c.read_on-on.ensures c.if-on.false _ _
-    c.read_at-begin.ensures c.led_end-voices.ensures c.if-voices.true
+pub returns-in-Some-on_line : goal.returns-in-Some-on_line
+returns-in-Some-on_line c = is-on _ c.if-line-gt256.false _ c.in-Some-on_line.ensures
+
+pub returns-then-ends : goal.returns-then-ends
+returns-then-ends c = is-voices _ c.if-line-gt256.false (c.if-ends.ensures.0 refl)
 
 pub returns : goal.returns
-returns c =
-    is_none _ (omega arith) _ c.read_design-design.ensures c.if-design.false _ c.read_on-on.ensures c.if-on.false _ _
-    c.read_at-begin.ensures c.led_end-voices.ensures c.if-voices.false
+returns c = is_none _ c.if-line-gt256.false c.in_default.ensures c.in_default-on_line.ensures c.if-ends.ensures.1
