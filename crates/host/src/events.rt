@@ -4,7 +4,7 @@ ghost use Rattle.std.specs.Prelude.{◌≡◌};
 ghost use Rattle.midi.specs.Steps.{cursor_at, stepped};
 ghost use Rattle.host.specs.Events.{HostTickAs, event_at, event_in, event_of};
 
-use crate::flag_number;
+use envelope::EnvGen;
 use midi::{Answer, Cursor};
 use wire::HostEnv;
 
@@ -36,12 +36,12 @@ pub struct HostEvent {
 pub fn cirstumbe_env_tick(env: HostEnv) -> HostEnvOutcome
     ensures { HostTickAs env result }
 {
-    if !wire::numbers::stage_numbered(env) {
+    if !env.is_numbered() {
         return HostEnvOutcome { number: 1, env };
     }
     HostEnvOutcome {
         number: 0,
-        env: wire::numbers::write_env(wire::read_env(env).tick()),
+        env: EnvGen::from(env).tick().into(),
     }
 }
 
@@ -75,7 +75,7 @@ fn event_in(c: Cursor, answer: Answer) -> HostEvent
         Answer::Refused(number) => event(c, 0, number as u32, 0, 0.0, 0, 0),
         Answer::On(note, velocity) => event(c, 1, 0, note, velocity, 0, 0),
         Answer::Off(note) => event(c, 2, 0, note, 0.0, 0, 0),
-        Answer::Pedal(down) => event(c, 3, 0, 0, 0.0, flag_number(down), 0),
+        Answer::Pedal(down) => event(c, 3, 0, 0, 0.0, u32::from(down), 0),
         Answer::AllOff => event(c, 4, 0, 0, 0.0, 0, 0),
         Answer::Bend(bend) => event(c, 5, 0, 0, 0.0, 0, bend as u32),
         Answer::Other => event(c, 6, 0, 0, 0.0, 0, 0),

@@ -1,3 +1,4 @@
+use Rattle.host.proofs.Laws.{as-flag}
 use Rattle.host.proofs.events.event_in.Goals as goal
 
 pub returns-in-Refused : goal.returns-in-Refused
@@ -10,7 +11,7 @@ pub returns-in-Off : goal.returns-in-Off
 returns-in-Off c = rw c.in-Off.is c.event-in-Off.ensures
 
 pub returns-in-Pedal : goal.returns-in-Pedal
-returns-in-Pedal c = rw (c.in-Pedal.is, ← c.flag_number.ensures) c.event-in-Pedal.ensures
+returns-in-Pedal c = rw (c.in-Pedal.is, ← as-flag _ _ c.from.ensures) c.event-in-Pedal.ensures
 
 pub returns-in-AllOff : goal.returns-in-AllOff
 returns-in-AllOff c = rw c.in-AllOff.is c.event-in-AllOff.ensures
