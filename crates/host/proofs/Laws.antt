@@ -23,16 +23,18 @@ use Rattle.instrument.specs.declared.MixReply.{MixReply}
 use Rattle.instrument.specs.declared.MixReply.TheVariants.{Mixed, Refused}
 use Rattle.instrument.specs.declared.MixOutcome.{MixOutcome}
 use Rattle.instrument.specs.declared.Answer as code
+use Rattle.instrument.specs.declared.Outcome as gave
 use Rattle.instrument.specs.View.{view, counted}
-use Rattle.instrument.specs.Calls.{refusal_of, reply_to, lent_of, StepAs, StartAs}
+use Rattle.instrument.specs.Calls.{reply_of, refusal_of, reply_to, lent_of, StepAs, StartAs}
 use Rattle.instrument.specs.Asked.{answer_of, asked_of, VoiceAs}
 use Rattle.instrument.specs.Mixes.{mix_reply_of, MixAs}
 use Rattle.wire.specs.declared.HostDesign.{HostDesign}
 use Rattle.wire.specs.declared.HostEnv.{HostEnv}
 use Rattle.wire.specs.declared.HostState.{HostState}
 use Rattle.wire.specs.Reads.{mode_numbered, stage_numbered, design_of, env_of, numbered, model_of, ReadFrom, WrittenFrom}
-use Rattle.host.specs.Said.{said_of, report_of, said_start, said_answer, refusing}
-use Rattle.host.specs.Hosted.{host_refusal, host_reply, host_lent, HostedAs, HostCallAs, Hosts, unread, HostVoiceAs, host_asked, host_design_reply, host_accepted, HostStartAs, BegunAs}
+use Rattle.std.specs.Int.{from_bool}
+use Rattle.host.specs.Said.{flag_number, said_of, report_of, said_start, said_answer, refusing}
+use Rattle.host.specs.Hosted.{host_refusal, host_reply, host_lent, HostedAs, HostCallAs, Hosts, HostedBy, AskedBy, unread, HostVoiceAs, host_asked, host_design_reply, host_accepted, HostStartAs, BegunAs}
 use Rattle.host.specs.Events.{HostTickAs}
 use Rattle.host.specs.declared.HostReply.{HostReply}
 use Rattle.host.specs.declared.HostOutcome.{HostOutcome}
@@ -159,6 +161,39 @@ module _ (h : HostState) (s : Instrument) (sure : numbered h ≡ true) (from : R
     read = λ _. record { answer = answer_of a; names = rw (← from.view) (v.in_room room); says = q };
     unread = λ f. absurd (f sure);
   }
+
+-- ---- a call or a query between reading and writing, on whatever numbers
+
+pub hosted-call : (post : Instrument → gave.Outcome → Type 0) (h : HostState) (c : Call) (r : HostOutcome) → HostedBy post h r
+    → ((s : Instrument) (o : gave.Outcome) → post s o → StepAs s c (reply_of o.reply) o.state) → HostCallAs h c r
+hosted-call post h c r b f = by (numbered h) refl
+  where
+    by : (z : Bool) → numbered h ≡ z → HostCallAs h c r
+    by true sure =
+        let k = b.read sure in
+        hosted h k.state sure k.from c (reply_of k.gave.reply) k.gave.state r.reply r.state (f k.state k.gave k.gives) k.hosts
+    by false fails = unread-outcome h fails c r (b.unread fails)
+
+pub asked-answer : (post : Instrument → code.Answer → Type 0) (h : HostState) (q : Model → Answer) (r : HostReply) → AskedBy post h r
+    → ((s : Instrument) (a : code.Answer) → post s a → answer_of a ≡ asked_of s (q (view s))) → r ≡ said_answer (host_asked h (q (model_of h)))
+asked-answer post h q r b f = by (numbered h) refl
+  where
+    by : (z : Bool) → numbered h ≡ z → r ≡ said_answer (host_asked h (q (model_of h)))
+    by true sure = let k = b.read sure in hosted-answer h k.state sure k.from k.answer q r (f k.state k.answer k.gives) k.says
+    by false fails = unasked h fails (q (model_of h)) r (b.unread fails)
+
+pub asked-voice : (post : Instrument → code.Answer → Type 0) (h : HostState) (note : ℕ) (r : HostReply) → AskedBy post h r
+    → ((s : Instrument) (a : code.Answer) → post s a → VoiceAs s note a) → HostVoiceAs h note r
+asked-voice post h note r b f = by (numbered h) refl
+  where
+    by : (z : Bool) → numbered h ≡ z → HostVoiceAs h note r
+    by true sure = let k = b.read sure in hosted-voice h k.state sure k.from note k.answer r (f k.state k.answer k.gives) k.says
+    by false fails = unread-voice h fails note r (b.unread fails)
+
+-- the number of a yes or no
+pub as-flag : (b : Bool) (n : ℕ) → n ≡ from_bool b → n ≡ flag_number b
+as-flag true n e = e
+as-flag false n e = e
 
 -- ---- the start
 

@@ -1,6 +1,6 @@
 -- What a call for a host promises: it is the instrument's call between reading the numbers of a state and writing those of the next
 -- (document 01, "What a call replies"). Numbers that stand for no state are a state that is not well formed: refusal 1.
-use Rattle.std.specs.Prelude.{◌≡◌, Bool, true, ◌&&◌, cond, List, ℕ, Float, Result, Err}
+use Rattle.std.specs.Prelude.{◌≡◌, Bool, true, false, ◌&&◌, cond, List, ℕ, Float, Result, Err}
 use Rattle.outcome.specs.declared.Refusal.{Refusal}
 use Rattle.outcome.specs.declared.Refusal.TheVariants.{OutsideLimits}
 use Rattle.design.specs.declared.InstrumentDesign.{InstrumentDesign}
@@ -10,9 +10,11 @@ use Rattle.model.specs.Step.{refusal, lent_to, step}
 use Rattle.model.specs.Start.{fresh, zero_state, start_of}
 use Rattle.model.specs.Queries.{Answer, VoiceOf}
 use Rattle.instrument.specs.declared.Instrument.{Instrument}
+use Rattle.instrument.specs.Calls as code
+use Rattle.instrument.specs.Calls.{reply_of}
 use Rattle.wire.specs.declared.HostDesign.{HostDesign}
 use Rattle.wire.specs.declared.HostState.{HostState}
-use Rattle.wire.specs.Reads.{mode_numbered, design_of, numbered, model_of, WrittenFrom}
+use Rattle.wire.specs.Reads.{mode_numbered, design_of, numbered, model_of, ReadFrom, WrittenFrom}
 use Rattle.host.specs.Said.{said_of, report_of, said_start, said_answer, unformed, refusing}
 use Rattle.host.specs.declared.HostReply.{HostReply}
 use Rattle.host.specs.declared.HostOutcome.{HostOutcome}
@@ -92,6 +94,29 @@ pub record Hosts (h : HostState) (said : Reply) (s : Instrument) (r : HostReply)
 -- numbers that stand for no state
 abbrev pub unread : HostState → HostOutcome
 unread h = record { reply = refusing unformed; state = h }
+
+-- what was made of the state that was read, where `post` says what the instrument's call may give
+pub record Called (post : Instrument → code.Called → Type 0) (h : HostState) (r : HostOutcome) : Type 0 where
+  pub state : Instrument
+  pub gave : code.Called
+  pub from : ReadFrom h state
+  pub gives : post state gave
+  pub hosts : Hosts h (reply_of gave.reply) gave.state r.reply r.state
+
+-- a call on the state that the numbers stand for, and on no other numbers
+pub record HostedBy (post : Instrument → code.Called → Type 0) (h : HostState) (r : HostOutcome) : Type 0 where
+  pub read : numbered h ≡ true → Called post h r
+  pub unread : numbered h ≡ false → r ≡ unread h
+
+-- the same of a query: what was said of the state that was read
+pub record Answered (post : Instrument → HostReply → Type 0) (h : HostState) (said : HostReply) : Type 0 where
+  pub state : Instrument
+  pub from : ReadFrom h state
+  pub gives : post state said
+
+pub record AskedBy (post : Instrument → HostReply → Type 0) (h : HostState) (said : HostReply) : Type 0 where
+  pub read : numbered h ≡ true → Answered post h said
+  pub unread : numbered h ≡ false → said ≡ refusing unformed
 
 -- a start with a design that was read
 pub record BegunAs (d : InstrumentDesign) (r : HostOutcome) : Type 0 where

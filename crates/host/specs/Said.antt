@@ -6,6 +6,8 @@ use Rattle.model.specs.Types.{Reply}
 use Rattle.model.specs.Types.{Reply.started, Reply.silent, Reply.kept, Reply.off, Reply.done, Reply.released, Reply.planned, Reply.mixed, Reply.refused}
 use Rattle.model.specs.Queries as model
 use Rattle.host.specs.declared.HostReply.{HostReply}
+use Rattle.host.specs.declared.Kind.{Kind}
+use Rattle.host.specs.declared.Kind.TheVariants as kind
 
 -- the seven numbers of a reply
 abbrev pub saying : ℕ → ℕ → ℕ → ℕ → ℕ → ℕ → ℕ → HostReply
@@ -30,6 +32,23 @@ unformed = 1
 -- a refusal has the number of document 01's table
 abbrev pub refusing : ℕ → HostReply
 refusing n = saying 0 n 0 0 0 0 0
+
+-- the number of each kind of reply
+abbrev pub kind_of : Kind → ℕ
+kind_of kind.Refused = 0
+kind_of kind.Started = 1
+kind_of kind.Silent = 2
+kind_of kind.Kept = 3
+kind_of kind.Off = 4
+kind_of kind.Done = 5
+kind_of kind.Released = 6
+kind_of kind.Planned = 7
+kind_of kind.Mixed = 8
+kind_of kind.Ready = 9
+kind_of kind.Active = 10
+kind_of kind.Voices = 11
+kind_of kind.Handle = 12
+kind_of kind.NoHandle = 13
 
 -- each reply of a call
 abbrev pub said_of : Reply → HostReply

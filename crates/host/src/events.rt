@@ -4,6 +4,7 @@ ghost use Rattle.std.specs.Prelude.{◌≡◌};
 ghost use Rattle.midi.specs.Steps.{cursor_at, stepped};
 ghost use Rattle.host.specs.Events.{HostTickAs, event_of};
 
+use envelope::EnvGen;
 use midi::{Cursor, Event};
 use outcome::Outcome;
 use wire::HostEnv;
@@ -36,12 +37,12 @@ pub struct HostEvent {
 pub fn cirstumbe_env_tick(env: HostEnv) -> HostEnvOutcome
     ensures { HostTickAs env result }
 {
-    if !wire::numbers::stage_numbered(env) {
+    if !env.is_numbered() {
         return HostEnvOutcome { number: 1, env };
     }
     HostEnvOutcome {
         number: 0,
-        env: wire::numbers::write_env(wire::read_env(env).tick()),
+        env: EnvGen::from(env).tick().into(),
     }
 }
 

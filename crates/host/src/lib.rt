@@ -2,27 +2,47 @@
 
 #![tactic(auto)]
 
-ghost use Rattle.std.specs.Prelude.{◌≡◌, List, ℕ};
+ghost use Rattle.std.specs.Prelude.{◌≡◌, Ok, replicate};
 ghost use Rattle.model.specs.Types.{Control, Call};
 ghost use Rattle.model.specs.Queries.{is_active, active_voices};
+ghost use Rattle.outcome.specs.Numbers.{number_of};
 ghost use Rattle.instrument.specs.Calls.{reply_of};
-ghost use Rattle.instrument.specs.Asked.{answer_of};
+ghost use Rattle.instrument.specs.Asked.{active_of, voices_of, handle_of};
 ghost use Rattle.instrument.specs.Mixes.{mix_reply_of};
 ghost use Rattle.wire.specs.Reads.{flag_of, model_of};
-ghost use Rattle.host.specs.Said.{saying, flag_number, refusing, said_of, said_start, said_answer};
-ghost use Rattle.host.specs.Hosted.{Hosts, unread, BegunAs, HostCallAs, HostPlanAs, HostMixAs, HostStartAs, HostVoiceAs, host_asked};
+ghost use Rattle.host.specs.Said.{saying, kind_of, refusing, said_of, report_of, said_start, said_answer};
+ghost use Rattle.host.specs.Hosted.{Hosts, HostedBy, AskedBy, BegunAs, HostCallAs, HostPlanAs, HostMixAs, HostStartAs, HostVoiceAs, host_asked};
 
 use design::InstrumentDesign;
-use instrument::{Answer, Instrument, MixOutcome, MixReply, Outcome, Reply};
-use outcome::Refusal;
+use instrument::{Instrument, Reply, Report};
+use outcome::{Outcome, Refusal};
 use wire::{HostDesign, HostState};
 
 pub mod events;
 
-// What a call or a query replies. `kind`: 0 refused, 1 started, 2 silent, 3 kept, 4 off, 5 done, 6 released, 7 planned, 8 mixed,
+// What a reply says, in the order of the numbers that stand for it.
+#[derive(Clone, Copy, Debug, PartialEq, Eq)]
+enum Kind {
+    Refused,
+    Started,
+    Silent,
+    Kept,
+    Off,
+    Done,
+    Released,
+    Planned,
+    Mixed,
+    Ready,
+    Active,
+    Voices,
+    Handle,
+    NoHandle,
+}
+
+// What a call or a query replies. `kind`, a number as C needs it: 0 refused, 1 started, 2 silent, 3 kept, 4 off, 5 done, 6 released, 7 planned, 8 mixed,
 // 9 ready, 10 active, 11 voices, 12 handle, 13 no handle. What a kind does not name is 0.
 #[repr(C)]
-#[derive(Clone, Copy)]
+#[derive(Clone, Copy, Default)]
 pub struct HostReply {
     pub kind: u32,
     // The number of the refusal.
@@ -52,111 +72,167 @@ pub struct HostMixOutcome {
     pub state: HostState,
 }
 
-fn said(
-    kind: u32,
-    number: u32,
-    handle: u64,
-    killed: u64,
-    taken: u64,
-    found: u32,
-    count: usize,
-) -> HostReply
-    ensures { result ≡ saying kind number handle killed taken found count }
-{
-    HostReply {
-        kind,
-        number,
-        handle,
-        killed,
-        taken,
-        found,
-        count,
+impl From<Kind> for HostReply {
+    ghost from_gives = { λ kind r. r ≡ saying (kind_of kind) 0 0 0 0 0 0 };
+
+    fn from(kind: Kind) -> HostReply {
+        HostReply {
+            kind: kind as u32,
+            ..HostReply::default()
+        }
     }
 }
 
-fn said_refused(number: u32) -> HostReply
-    ensures { result ≡ refusing number }
-{
-    said(0, number, 0, 0, 0, 0, 0)
-}
+impl From<Refusal> for HostReply {
+    ghost from_gives = { λ refusal r. r ≡ refusing (number_of refusal) };
 
-fn flag_number(flag: bool) -> u32
-    ensures { result ≡ flag_number flag }
-{
-    if flag { 1 } else { 0 }
-}
-
-fn said_reply(reply: Reply) -> HostReply
-    ensures { result ≡ said_of (reply_of reply) }
-{
-    match reply {
-        Reply::Started(handle, killed, taken) => said(1, 0, handle, killed, taken, 0, 0),
-        Reply::Silent(handle) => said(2, 0, handle, 0, 0, 0, 0),
-        Reply::Kept(handle) => said(3, 0, handle, 0, 0, 0, 0),
-        Reply::Off(found) => said(4, 0, 0, 0, 0, flag_number(found), 0),
-        Reply::Done => said(5, 0, 0, 0, 0, 0, 0),
-        Reply::Released(found) => said(6, 0, 0, 0, 0, flag_number(found), 0),
-        Reply::Planned => said(7, 0, 0, 0, 0, 0, 0),
-        Reply::Refused(number) => said_refused(number as u32),
+    fn from(refusal: Refusal) -> HostReply {
+        HostReply {
+            number: refusal.number().into(),
+            ..Kind::Refused.into()
+        }
     }
 }
 
-fn said_mix(reply: MixReply) -> HostReply
-    ensures { (ended : List ℕ) → result ≡ said_of (mix_reply_of reply ended) }
-{
-    match reply {
-        MixReply::Mixed(count) => said(8, 0, 0, 0, 0, 0, count),
-        MixReply::Refused(number) => said_refused(number as u32),
+impl From<Reply> for HostReply {
+    ghost from_gives = { λ reply r. r ≡ said_of (reply_of (Ok reply)) };
+
+    fn from(reply: Reply) -> HostReply {
+        match reply {
+            Reply::Started {
+                handle,
+                killed,
+                taken,
+            } => HostReply {
+                handle,
+                killed: killed.unwrap_or(0),
+                taken: taken.unwrap_or(0),
+                ..Kind::Started.into()
+            },
+            Reply::Silent(handle) => HostReply {
+                handle,
+                ..Kind::Silent.into()
+            },
+            Reply::Kept(handle) => HostReply {
+                handle,
+                ..Kind::Kept.into()
+            },
+            Reply::Off(found) => HostReply {
+                found: found.into(),
+                ..Kind::Off.into()
+            },
+            Reply::Done => Kind::Done.into(),
+            Reply::Released(found) => HostReply {
+                found: found.into(),
+                ..Kind::Released.into()
+            },
+            Reply::Planned => Kind::Planned.into(),
+        }
     }
 }
 
-fn said_start(reply: Result<(), Refusal>) -> HostReply
-    ensures { result ≡ said_start reply }
-{
-    match reply {
-        Ok(_) => said(9, 0, 0, 0, 0, 0, 0),
-        Err(reason) => said_refused(reason.number() as u32),
+// Of a start.
+impl From<Result<(), Refusal>> for HostReply {
+    ghost from_gives = { λ reply r. r ≡ said_start reply };
+
+    fn from(reply: Result<(), Refusal>) -> HostReply {
+        match reply {
+            Ok(()) => Kind::Ready.into(),
+            Err(refusal) => refusal.into(),
+        }
     }
 }
 
-fn said_answer(answer: Answer) -> HostReply
-    ensures { result ≡ said_answer (answer_of answer) }
-{
-    match answer {
-        Answer::Active(found) => said(10, 0, 0, 0, 0, flag_number(found), 0),
-        Answer::Voices(count) => said(11, 0, 0, 0, 0, 0, count),
-        Answer::Handle(handle) => said(12, 0, handle, 0, 0, 0, 0),
-        Answer::NoHandle => said(13, 0, 0, 0, 0, 0, 0),
-        Answer::Refused(number) => said_refused(number as u32),
+// Of `is_active`.
+impl From<Result<bool, Refusal>> for HostReply {
+    ghost from_gives = { λ answer r. r ≡ said_answer (active_of answer) };
+
+    fn from(answer: Result<bool, Refusal>) -> HostReply {
+        match answer {
+            Ok(found) => HostReply {
+                found: found.into(),
+                ..Kind::Active.into()
+            },
+            Err(refusal) => refusal.into(),
+        }
     }
 }
 
-// Numbers that stand for no state are refused with 1.
-fn unread(h: HostState) -> HostOutcome
-    ensures { result ≡ unread h }
-{
-    HostOutcome {
-        reply: said_refused(1),
-        state: h,
+// Of `active_voices`.
+impl From<Result<usize, Refusal>> for HostReply {
+    ghost from_gives = { λ answer r. r ≡ said_answer (voices_of answer) };
+
+    fn from(answer: Result<usize, Refusal>) -> HostReply {
+        match answer {
+            Ok(count) => HostReply {
+                count,
+                ..Kind::Voices.into()
+            },
+            Err(refusal) => refusal.into(),
+        }
+    }
+}
+
+// Of `voice_of`.
+impl From<Result<Option<u64>, Refusal>> for HostReply {
+    ghost from_gives = { λ answer r. r ≡ said_answer (handle_of answer) };
+
+    fn from(answer: Result<Option<u64>, Refusal>) -> HostReply {
+        match answer {
+            Ok(Some(handle)) => HostReply {
+                handle,
+                ..Kind::Handle.into()
+            },
+            Ok(None) => Kind::NoHandle.into(),
+            Err(refusal) => refusal.into(),
+        }
     }
 }
 
 // The very numbers given on a refusal, else those of the next state.
-fn outcome(h: HostState, made: Outcome) -> HostOutcome
+fn outcome(h: HostState, made: Outcome<Instrument, Reply>) -> HostOutcome
     ensures { Hosts h (reply_of made.reply) made.state result.reply result.state }
 {
-    let reply = made.reply;
-    let state = made.state;
-    let said = said_reply(reply);
-    if said.kind == 0 {
-        return HostOutcome {
-            reply: said,
-            state: h,
-        };
+    match made.reply {
+        Ok(reply) => HostOutcome {
+            reply: reply.into(),
+            state: made.state.into(),
+        },
+        Err(refusal) => refused(h, refusal),
     }
+}
+
+fn refused(h: HostState, refusal: Refusal) -> HostOutcome
+    ensures { result ≡ record { reply = refusing (number_of refusal); state = h } }
+{
     HostOutcome {
-        reply: said,
-        state: wire::numbers::write(state),
+        reply: refusal.into(),
+        state: h,
+    }
+}
+
+// The call on the state that the numbers stand for; numbers that stand for none are refused.
+fn hosted<F: FnOnce(Instrument) -> Outcome<Instrument, Reply>>(
+    h: HostState,
+    call: F,
+) -> HostOutcome
+    requires { F.IsAlwaysCallable call }
+    ensures { HostedBy (F.post call) h result }
+{
+    match Instrument::try_from(h) {
+        Ok(s) => outcome(h, call(s)),
+        Err(refusal) => refused(h, refusal),
+    }
+}
+
+// As `hosted`, for a query.
+fn asked<F: FnOnce(Instrument) -> HostReply>(h: HostState, ask: F) -> HostReply
+    requires { F.IsAlwaysCallable ask }
+    ensures { AskedBy (F.post ask) h result }
+{
+    match Instrument::try_from(h) {
+        Ok(s) => ask(s),
+        Err(refusal) => refusal.into(),
     }
 }
 
@@ -164,11 +240,9 @@ fn begin(design: InstrumentDesign) -> HostOutcome
     ensures { BegunAs design result }
 {
     let made = Instrument::new(design);
-    let reply = made.reply;
-    let state = made.state;
     HostOutcome {
-        reply: said_start(reply),
-        state: wire::numbers::write(state),
+        reply: made.reply.into(),
+        state: made.state.into(),
     }
 }
 
@@ -176,77 +250,58 @@ fn begin(design: InstrumentDesign) -> HostOutcome
 pub fn cirstumbe_new(design: HostDesign) -> HostOutcome
     ensures { HostStartAs design result }
 {
-    let mut d = wire::read_design(design);
-    if !wire::numbers::mode_numbered(design) {
-        d.max_voices = 0;
-        return begin(d);
+    let read = InstrumentDesign::from(design);
+    if design.is_numbered() {
+        return begin(read);
     }
-    begin(d)
+    begin(InstrumentDesign {
+        max_voices: 0,
+        ..read
+    })
 }
 
 // `built` is 0, or any other number for yes.
 pub fn cirstumbe_note_on(h: HostState, note: u8, velocity: f32, built: u32) -> HostOutcome
     ensures { HostCallAs h (Call.note_on note velocity (flag_of built)) result }
 {
-    if !wire::numbers::numbered(h) {
-        return unread(h);
-    }
-    outcome(h, wire::read(h).note_on(note, velocity, built != 0))
+    hosted(h, |s| s.note_on(note, velocity, built != 0))
 }
 
 pub fn cirstumbe_note_off(h: HostState, note: u8) -> HostOutcome
     ensures { HostCallAs h (Call.control (Control.note_off note)) result }
 {
-    if !wire::numbers::numbered(h) {
-        return unread(h);
-    }
-    outcome(h, wire::read(h).note_off(note))
+    hosted(h, |s| s.note_off(note))
 }
 
 // `down` is 0, or any other number for yes.
 pub fn cirstumbe_set_sustain(h: HostState, down: u32) -> HostOutcome
     ensures { HostCallAs h (Call.control (Control.pedal (flag_of down))) result }
 {
-    if !wire::numbers::numbered(h) {
-        return unread(h);
-    }
-    outcome(h, wire::read(h).set_sustain(down != 0))
+    hosted(h, |s| s.set_sustain(down != 0))
 }
 
 pub fn cirstumbe_set_bend(h: HostState, factor: f32) -> HostOutcome
     ensures { HostCallAs h (Call.control (Control.bend factor)) result }
 {
-    if !wire::numbers::numbered(h) {
-        return unread(h);
-    }
-    outcome(h, wire::read(h).set_bend(factor))
+    hosted(h, |s| s.set_bend(factor))
 }
 
 pub fn cirstumbe_set_brightness(h: HostState, scale: f32) -> HostOutcome
     ensures { HostCallAs h (Call.control (Control.brightness scale)) result }
 {
-    if !wire::numbers::numbered(h) {
-        return unread(h);
-    }
-    outcome(h, wire::read(h).set_brightness(scale))
+    hosted(h, |s| s.set_brightness(scale))
 }
 
 pub fn cirstumbe_release(h: HostState, handle: u64) -> HostOutcome
     ensures { HostCallAs h (Call.control (Control.release handle)) result }
 {
-    if !wire::numbers::numbered(h) {
-        return unread(h);
-    }
-    outcome(h, wire::read(h).release(handle))
+    hosted(h, |s| s.release(handle))
 }
 
 pub fn cirstumbe_all_notes_off(h: HostState) -> HostOutcome
     ensures { HostCallAs h (Call.control Control.all_off) result }
 {
-    if !wire::numbers::numbered(h) {
-        return unread(h);
-    }
-    outcome(h, wire::read(h).all_notes_off())
+    hosted(h, |s| s.all_notes_off())
 }
 
 pub fn cirstumbe_plan(
@@ -259,73 +314,64 @@ pub fn cirstumbe_plan(
 ) -> HostOutcome
     ensures { HostPlanAs h frames vibrato filter tremolo_sine curve.old curve.new result }
 {
-    if !wire::numbers::numbered(h) {
-        return unread(h);
+    // Not by `hosted`: the contract of a closure that is handed on says nothing of the memory that it is lent.
+    match Instrument::try_from(h) {
+        Ok(s) => outcome(h, s.plan(frames, vibrato, filter, tremolo_sine, curve)),
+        Err(refusal) => refused(h, refusal),
     }
-    outcome(
-        h,
-        wire::read(h).plan(frames, vibrato, filter, tremolo_sine, curve),
-    )
 }
 
-// The very numbers given on a refusal, else those of the next state, with the report.
-fn mix_outcome(h: HostState, made: MixOutcome) -> HostMixOutcome
-    ensures { (result.ended ≡ made.ended) × Hosts h (mix_reply_of made.reply made.ended) made.state result.reply result.state }
+// The very numbers given and no report on a refusal, else those of the next state with the report.
+fn mix_outcome(h: HostState, made: Outcome<Instrument, Report>) -> HostMixOutcome
+    ensures reported { result.ended ≡ report_of (mix_reply_of made.reply) }
+    ensures hosted { Hosts h (mix_reply_of made.reply) made.state result.reply result.state }
 {
-    let reply = made.reply;
-    let ended = made.ended;
-    let state = made.state;
-    let said = said_mix(reply);
-    if said.kind == 0 {
-        return HostMixOutcome {
-            reply: said,
-            ended,
-            state: h,
-        };
+    match made.reply {
+        Ok(report) => HostMixOutcome {
+            reply: HostReply {
+                count: report.count,
+                ..Kind::Mixed.into()
+            },
+            ended: report.ended,
+            state: made.state.into(),
+        },
+        Err(refusal) => unmixed(h, refusal),
     }
+}
+
+fn unmixed(h: HostState, refusal: Refusal) -> HostMixOutcome
+    ensures { result ≡ record { reply = refusing (number_of refusal); ended = replicate 64 0; state = h } }
+{
     HostMixOutcome {
-        reply: said,
-        ended,
-        state: wire::numbers::write(state),
+        reply: refusal.into(),
+        ended: [0; 64],
+        state: h,
     }
 }
 
 pub fn cirstumbe_mix(h: HostState, samples: &[f32], out: &mut [f32]) -> HostMixOutcome
     ensures { HostMixAs h samples.now out.old out.new result }
 {
-    if !wire::numbers::numbered(h) {
-        return HostMixOutcome {
-            reply: said_refused(1),
-            ended: [0; 64],
-            state: h,
-        };
+    match Instrument::try_from(h) {
+        Ok(s) => mix_outcome(h, s.mix(samples, out)),
+        Err(refusal) => unmixed(h, refusal),
     }
-    mix_outcome(h, wire::read(h).mix(samples, out))
 }
 
 pub fn cirstumbe_is_active(h: HostState, handle: u64) -> HostReply
     ensures { result ≡ said_answer (host_asked h (is_active (model_of h) handle)) }
 {
-    if !wire::numbers::numbered(h) {
-        return said_refused(1);
-    }
-    said_answer(wire::read(h).is_active(handle))
+    asked(h, |s| s.is_active(handle).into())
 }
 
 pub fn cirstumbe_active_voices(h: HostState) -> HostReply
     ensures { result ≡ said_answer (host_asked h (active_voices (model_of h))) }
 {
-    if !wire::numbers::numbered(h) {
-        return said_refused(1);
-    }
-    said_answer(wire::read(h).active_voices())
+    asked(h, |s| s.active_voices().into())
 }
 
 pub fn cirstumbe_voice_of(h: HostState, note: u8) -> HostReply
     ensures { HostVoiceAs h note result }
 {
-    if !wire::numbers::numbered(h) {
-        return said_refused(1);
-    }
-    said_answer(wire::read(h).voice_of(note))
+    asked(h, |s| s.voice_of(note).into())
 }

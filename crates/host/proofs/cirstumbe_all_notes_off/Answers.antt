@@ -1,11 +1,6 @@
-use mathlib.Core.Path.{sym, ◌∙◌}
-use Rattle.host.proofs.Laws.{unread-outcome, hosted}
+use Rattle.std.proofs.Common.{rules}
+use Rattle.host.proofs.Laws.{hosted-call}
 use Rattle.host.proofs.cirstumbe_all_notes_off.Goals as goal
 
-pub returns-then-not-numbered : goal.returns-then-not-numbered
-returns-then-not-numbered c = unread-outcome _ (sym c.numbered.ensures ∙ c.if-not-numbered.true) _ _ c.unread.ensures
-
 pub returns : goal.returns
-returns c =
-    let sure = sym c.numbered.ensures ∙ c.if-not-numbered.false in
-    hosted _ _ sure c.read.ensures _ _ _ _ _ c.all_notes_off.ensures c.outcome.ensures
+returns c = hosted-call _ c.args.h _ _ c.hosted.ensures (λ s o k. search rules)

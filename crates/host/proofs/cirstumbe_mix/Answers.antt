@@ -1,20 +1,19 @@
-use mathlib.Core.Path.{sym, ◌∙◌}
+use mathlib.Core.Path.{◌∙◌}
 use Rattle.host.proofs.Laws.{unread-call, unread-report, unread-lent, hosted, hosted-report, same-lent}
 use Rattle.host.proofs.cirstumbe_mix.Goals as goal
 
-pub returns-then-not-numbered : goal.returns-then-not-numbered
-returns-then-not-numbered c =
-    let fails = sym c.numbered.ensures ∙ c.if-not-numbered.true in
-    record { call = unread-call _ fails _ _ c.said_refused.ensures; report = unread-report _ fails _; lent = unread-lent _ fails _ }
-
-pub returns : goal.returns
-returns c =
-    let sure = sym c.numbered.ensures ∙ c.if-not-numbered.false in
-    let from = c.read.ensures in
+pub returns-in-Ok : goal.returns-in-Ok
+returns-in-Ok c =
+    let k = c.in-Ok.ensures in
     let m = c.mix.ensures in
     let o = c.mix_outcome.ensures in
     record {
-      call = hosted _ _ sure from _ _ _ _ _ m.call o.1;
-      report = o.0 ∙ hosted-report _ _ sure from _ _ _ _ m;
-      lent = m.lent ∙ same-lent _ _ sure from _;
+      call = hosted _ _ k.0 k.1 _ _ _ _ _ m.call o.1;
+      report = o.0 ∙ hosted-report _ _ k.0 k.1 _ _ _ _ m;
+      lent = m.lent ∙ same-lent _ _ k.0 k.1 _;
     }
+
+pub returns-in-Err : goal.returns-in-Err
+returns-in-Err c =
+    let k = c.in-Err.ensures in
+    record { call = unread-call _ k.0 _ _ (rw k.1 at c.into.ensures); report = unread-report _ k.0 _; lent = unread-lent _ k.0 _ }
