@@ -2,18 +2,19 @@
 
 #![tactic(auto)]
 
-ghost use Rattle.std.specs.Prelude.{◌≡◌, List, ℕ};
+ghost use Rattle.std.specs.Prelude.{◌≡◌, replicate, Ok};
 ghost use Rattle.model.specs.Types.{Control, Call};
 ghost use Rattle.model.specs.Queries.{is_active, active_voices};
-ghost use Rattle.instrument.specs.Calls.{reply_of};
-ghost use Rattle.instrument.specs.Asked.{answer_of};
+ghost use Rattle.instrument.specs.Calls.{reply_of, start_reply};
+ghost use Rattle.instrument.specs.Asked.{active_of, voices_of, handle_of};
 ghost use Rattle.instrument.specs.Mixes.{mix_reply_of};
 ghost use Rattle.wire.specs.Reads.{flag_of, model_of};
-ghost use Rattle.host.specs.Said.{saying, flag_number, refusing, said_of, said_start, said_answer};
+ghost use Rattle.host.specs.Said.{saying, flag_number, refusing, said_of, report_of, said_start, said_answer};
 ghost use Rattle.host.specs.Hosted.{Hosts, unread, BegunAs, HostCallAs, HostPlanAs, HostMixAs, HostStartAs, HostVoiceAs, host_asked};
 
-use design::{DesignReply, InstrumentDesign};
-use instrument::{Answer, Instrument, MixOutcome, MixReply, Outcome, Reply};
+use design::InstrumentDesign;
+use instrument::{Instrument, Reply, Report};
+use outcome::{Outcome, Refusal};
 use wire::{HostDesign, HostState};
 
 pub mod events;
@@ -86,47 +87,57 @@ fn flag_number(flag: bool) -> u32
 }
 
 fn said_reply(reply: Reply) -> HostReply
-    ensures { result ≡ said_of (reply_of reply) }
+    ensures { result ≡ said_of (reply_of (Ok reply)) }
 {
     match reply {
-        Reply::Started(handle, killed, taken) => said(1, 0, handle, killed, taken, 0, 0),
+        Reply::Started {
+            handle,
+            killed,
+            taken,
+        } => said(1, 0, handle, killed.unwrap_or(0), taken.unwrap_or(0), 0, 0),
         Reply::Silent(handle) => said(2, 0, handle, 0, 0, 0, 0),
         Reply::Kept(handle) => said(3, 0, handle, 0, 0, 0, 0),
         Reply::Off(found) => said(4, 0, 0, 0, 0, flag_number(found), 0),
         Reply::Done => said(5, 0, 0, 0, 0, 0, 0),
         Reply::Released(found) => said(6, 0, 0, 0, 0, flag_number(found), 0),
         Reply::Planned => said(7, 0, 0, 0, 0, 0, 0),
-        Reply::Refused(number) => said_refused(number as u32),
     }
 }
 
-fn said_mix(reply: MixReply) -> HostReply
-    ensures { (ended : List ℕ) → result ≡ said_of (mix_reply_of reply ended) }
+fn said_start(reply: Result<(), Refusal>) -> HostReply
+    ensures { result ≡ said_start (start_reply reply) }
 {
     match reply {
-        MixReply::Mixed(count) => said(8, 0, 0, 0, 0, 0, count),
-        MixReply::Refused(number) => said_refused(number as u32),
+        Ok(_) => said(9, 0, 0, 0, 0, 0, 0),
+        Err(refusal) => said_refused(refusal.number() as u32),
     }
 }
 
-fn said_start(reply: DesignReply) -> HostReply
-    ensures { result ≡ said_start reply }
-{
-    match reply {
-        DesignReply::Accepted => said(9, 0, 0, 0, 0, 0, 0),
-        DesignReply::Refused(number) => said_refused(number as u32),
-    }
-}
-
-fn said_answer(answer: Answer) -> HostReply
-    ensures { result ≡ said_answer (answer_of answer) }
+fn said_active(answer: Result<bool, Refusal>) -> HostReply
+    ensures { result ≡ said_answer (active_of answer) }
 {
     match answer {
-        Answer::Active(found) => said(10, 0, 0, 0, 0, flag_number(found), 0),
-        Answer::Voices(count) => said(11, 0, 0, 0, 0, 0, count),
-        Answer::Handle(handle) => said(12, 0, handle, 0, 0, 0, 0),
-        Answer::NoHandle => said(13, 0, 0, 0, 0, 0, 0),
-        Answer::Refused(number) => said_refused(number as u32),
+        Ok(found) => said(10, 0, 0, 0, 0, flag_number(found), 0),
+        Err(refusal) => said_refused(refusal.number() as u32),
+    }
+}
+
+fn said_voices(answer: Result<usize, Refusal>) -> HostReply
+    ensures { result ≡ said_answer (voices_of answer) }
+{
+    match answer {
+        Ok(count) => said(11, 0, 0, 0, 0, 0, count),
+        Err(refusal) => said_refused(refusal.number() as u32),
+    }
+}
+
+fn said_handle(answer: Result<Option<u64>, Refusal>) -> HostReply
+    ensures { result ≡ said_answer (handle_of answer) }
+{
+    match answer {
+        Ok(Some(handle)) => said(12, 0, handle, 0, 0, 0, 0),
+        Ok(None) => said(13, 0, 0, 0, 0, 0, 0),
+        Err(refusal) => said_refused(refusal.number() as u32),
     }
 }
 
@@ -141,21 +152,19 @@ fn unread(h: HostState) -> HostOutcome
 }
 
 // The very numbers given on a refusal, else those of the next state.
-fn outcome(h: HostState, made: Outcome) -> HostOutcome
+fn outcome(h: HostState, made: Outcome<Instrument, Reply>) -> HostOutcome
     ensures { Hosts h (reply_of made.reply) made.state result.reply result.state }
 {
-    let reply = made.reply;
     let state = made.state;
-    let said = said_reply(reply);
-    if said.kind == 0 {
-        return HostOutcome {
-            reply: said,
+    match made.reply {
+        Ok(reply) => HostOutcome {
+            reply: said_reply(reply),
+            state: wire::numbers::write(state),
+        },
+        Err(refusal) => HostOutcome {
+            reply: said_refused(refusal.number() as u32),
             state: h,
-        };
-    }
-    HostOutcome {
-        reply: said,
-        state: wire::numbers::write(state),
+        },
     }
 }
 
@@ -267,25 +276,32 @@ pub fn cirstumbe_plan(
     )
 }
 
-// The very numbers given on a refusal, else those of the next state, with the report.
-fn mix_outcome(h: HostState, made: MixOutcome) -> HostMixOutcome
-    ensures { (result.ended ≡ made.ended) × Hosts h (mix_reply_of made.reply made.ended) made.state result.reply result.state }
+// The very numbers given, and nobody reported.
+fn unmixed(h: HostState, number: u32) -> HostMixOutcome
+    ensures { result ≡ record { reply = refusing number; ended = replicate 64 0; state = h } }
 {
-    let reply = made.reply;
-    let ended = made.ended;
-    let state = made.state;
-    let said = said_mix(reply);
-    if said.kind == 0 {
-        return HostMixOutcome {
-            reply: said,
-            ended,
-            state: h,
-        };
-    }
     HostMixOutcome {
-        reply: said,
-        ended,
-        state: wire::numbers::write(state),
+        reply: said_refused(number),
+        ended: [0; 64],
+        state: h,
+    }
+}
+
+// The very numbers given on a refusal, else those of the next state, with the report.
+fn mix_outcome(h: HostState, made: Outcome<Instrument, Report>) -> HostMixOutcome
+    ensures { (result.ended ≡ report_of (mix_reply_of made.reply)) × Hosts h (mix_reply_of made.reply) made.state result.reply result.state }
+{
+    let state = made.state;
+    match made.reply {
+        Ok(report) => {
+            let ended = report.ended;
+            HostMixOutcome {
+                reply: said(8, 0, 0, 0, 0, 0, report.count),
+                ended,
+                state: wire::numbers::write(state),
+            }
+        }
+        Err(refusal) => unmixed(h, refusal.number() as u32),
     }
 }
 
@@ -293,11 +309,7 @@ pub fn cirstumbe_mix(h: HostState, samples: &[f32], out: &mut [f32]) -> HostMixO
     ensures { HostMixAs h samples.now out.old out.new result }
 {
     if !wire::numbers::numbered(h) {
-        return HostMixOutcome {
-            reply: said_refused(1),
-            ended: [0; 64],
-            state: h,
-        };
+        return unmixed(h, 1);
     }
     mix_outcome(h, wire::read(h).mix(samples, out))
 }
@@ -308,7 +320,7 @@ pub fn cirstumbe_is_active(h: HostState, handle: u64) -> HostReply
     if !wire::numbers::numbered(h) {
         return said_refused(1);
     }
-    said_answer(wire::read(h).is_active(handle))
+    said_active(wire::read(h).is_active(handle))
 }
 
 pub fn cirstumbe_active_voices(h: HostState) -> HostReply
@@ -317,7 +329,7 @@ pub fn cirstumbe_active_voices(h: HostState) -> HostReply
     if !wire::numbers::numbered(h) {
         return said_refused(1);
     }
-    said_answer(wire::read(h).active_voices())
+    said_voices(wire::read(h).active_voices())
 }
 
 pub fn cirstumbe_voice_of(h: HostState, note: u8) -> HostReply
@@ -326,5 +338,5 @@ pub fn cirstumbe_voice_of(h: HostState, note: u8) -> HostReply
     if !wire::numbers::numbered(h) {
         return said_refused(1);
     }
-    said_answer(wire::read(h).voice_of(note))
+    said_handle(wire::read(h).voice_of(note))
 }

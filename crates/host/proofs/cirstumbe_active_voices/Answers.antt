@@ -9,4 +9,4 @@ returns-then-not-numbered c = unasked _ (sym c.numbered.ensures ∙ c.if-not-num
 pub returns : goal.returns
 returns c =
     let sure = sym c.numbered.ensures ∙ c.if-not-numbered.false in
-    hosted-answer _ _ sure c.read.ensures c.active_voices.result active_voices _ c.active_voices.ensures c.said_answer.ensures
+    hosted-answer _ _ sure c.read.ensures _ active_voices _ c.active_voices.ensures c.said_voices.ensures

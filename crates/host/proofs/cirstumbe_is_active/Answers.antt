@@ -9,5 +9,5 @@ returns-then-not-numbered c = unasked _ (sym c.numbered.ensures ∙ c.if-not-num
 pub returns : goal.returns
 returns c =
     let sure = sym c.numbered.ensures ∙ c.if-not-numbered.false in
-    hosted-answer _ _ sure c.read.ensures c.is_active.result (λ m. is_active m c.args.handle) _ c.is_active.ensures
-    c.said_answer.ensures
+    hosted-answer _ _ sure c.read.ensures _ (λ m. is_active m c.args.handle) _ c.is_active.ensures
+    c.said_active.ensures

@@ -1,11 +1,11 @@
-use mathlib.Core.Path.{sym, ◌∙◌}
+use mathlib.Core.Path.{refl, sym, ◌∙◌}
 use Rattle.host.proofs.Laws.{unread-call, unread-report, unread-lent, hosted, hosted-report, same-lent}
 use Rattle.host.proofs.cirstumbe_mix.Goals as goal
 
 pub returns-then-not-numbered : goal.returns-then-not-numbered
 returns-then-not-numbered c =
     let fails = sym c.numbered.ensures ∙ c.if-not-numbered.true in
-    record { call = unread-call _ fails _ _ c.said_refused.ensures; report = unread-report _ fails _; lent = unread-lent _ fails _ }
+    rw c.unmixed.ensures (record { call = unread-call _ fails _ _ refl; report = unread-report _ fails _; lent = unread-lent _ fails _ })
 
 pub returns : goal.returns
 returns c =

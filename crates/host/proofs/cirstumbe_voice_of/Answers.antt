@@ -8,4 +8,4 @@ returns-then-not-numbered c = unread-voice _ (sym c.numbered.ensures ∙ c.if-no
 pub returns : goal.returns
 returns c =
     let sure = sym c.numbered.ensures ∙ c.if-not-numbered.false in
-    hosted-voice _ _ sure c.read.ensures _ _ _ c.voice_of.ensures c.said_answer.ensures
+    hosted-voice _ _ sure c.read.ensures _ _ _ c.voice_of.ensures c.said_handle.ensures

@@ -1,9 +1,9 @@
 use mathlib.Core.Path.{refl}
-use Rattle.host.proofs.Laws.{hosts-refused, hosts-written}
+use Rattle.host.proofs.Laws.{hosts-refused, hosts-mixed}
 use Rattle.host.proofs.mix_outcome.Goals as goal
 
-pub returns-then-said-eq0 : goal.returns-then-said-eq0
-returns-then-said-eq0 c = (refl, hosts-refused _ _ _ _ (c.said_mix-said.ensures _) c.if-said-eq0.true)
+pub returns-in-Ok : goal.returns-in-Ok
+returns-in-Ok c = rw c.in-Ok.is (refl, hosts-mixed _ _ _ _ _ _ c.said.ensures c.write.ensures)
 
-pub returns : goal.returns
-returns c = (refl, hosts-written _ _ _ _ _ (c.said_mix-said.ensures _) c.if-said-eq0.false c.write.ensures)
+pub returns-in-Err : goal.returns-in-Err
+returns-in-Err c = rw (c.in-Err.is, c.unmixed.ensures, c.number.ensures) (refl, hosts-refused _ c.in-Err.refusal _ _ refl)

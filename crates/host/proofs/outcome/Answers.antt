@@ -1,8 +1,8 @@
 use Rattle.host.proofs.Laws.{hosts-refused, hosts-written}
 use Rattle.host.proofs.outcome.Goals as goal
 
-pub returns-then-said-eq0 : goal.returns-then-said-eq0
-returns-then-said-eq0 c = hosts-refused _ _ _ _ c.said_reply-said.ensures c.if-said-eq0.true
+pub returns-in-Ok : goal.returns-in-Ok
+returns-in-Ok c = rw c.in-Ok.is (hosts-written _ _ _ _ _ c.said_reply.ensures c.write.ensures)
 
-pub returns : goal.returns
-returns c = hosts-written _ _ _ _ _ c.said_reply-said.ensures c.if-said-eq0.false c.write.ensures
+pub returns-in-Err : goal.returns-in-Err
+returns-in-Err c = rw c.in-Err.is (hosts-refused _ c.in-Err.refusal _ _ (rw c.number.ensures at c.said_refused.ensures))
