@@ -2,13 +2,13 @@
 -- `StepAs` is what each of the nine methods promises of its reply and its state.
 use Rattle.std.specs.Prelude.{◌≡◌, true, ℕ}
 use mathlib.Core.List.{List, [], ◌∷◌, ◌++◌, map, flat_map, Nodup, Perm}
+use Rattle.outcome.specs.declared.Outcome.{Outcome}
 use Rattle.design.specs.declared.InstrumentDesign.{InstrumentDesign}
 use Rattle.design.specs.Accepted.{is_accepted}
 use Rattle.model.specs.Types.{Call, Reply}
 use Rattle.model.specs.Start.{fresh}
 use Rattle.model.specs.Runs.{after, replies, issued_by, silent_by, taken_by, ended_by, table}
 use Rattle.instrument.specs.declared.Instrument.{Instrument}
-use Rattle.instrument.specs.declared.NewInstrument.{NewInstrument}
 use Rattle.instrument.specs.View.{view, counted}
 use Rattle.instrument.specs.Calls.{StartAs, StepAs}
 
@@ -56,5 +56,5 @@ pub record Accounted (d : InstrumentDesign) (s : Instrument) (xs : List Ran) : T
   pub accounted : Perm (table (view (last_of s xs)) ++ (silent_in xs ++ (taken_in xs ++ ended_in xs))) (issued_in xs)
 
 unfoldable pub CallsAreSteps : Type 0
-CallsAreSteps = (d : InstrumentDesign) → is_accepted d ≡ true → (r : NewInstrument) → StartAs d r → (xs : List Ran) → RunFrom r.state xs
+CallsAreSteps = (d : InstrumentDesign) → is_accepted d ≡ true → (r : Outcome Instrument (Unit {0})) → StartAs d r → (xs : List Ran) → RunFrom r.state xs
     → Accounted d r.state xs

@@ -6,51 +6,52 @@ ghost use Rattle.instrument.specs.Calls.{StartAs};
 ghost use Rattle.account.specs.Methods.{Runs, PlanRuns, MixRuns};
 
 use design::InstrumentDesign;
-use instrument::{Instrument, MixOutcome, NewInstrument, Outcome};
+use instrument::{Instrument, Reply, Report};
+use outcome::Outcome;
 
-fn start(design: InstrumentDesign) -> NewInstrument
+fn start(design: InstrumentDesign) -> Outcome<Instrument, ()>
     ensures { StartAs design result }
 {
     Instrument::new(design)
 }
 
-fn note_on(s: Instrument, note: u8, velocity: f32, built: bool) -> Outcome
+fn note_on(s: Instrument, note: u8, velocity: f32, built: bool) -> Outcome<Instrument, Reply>
     ensures { Runs s (Call.note_on note velocity built) result }
 {
     s.note_on(note, velocity, built)
 }
 
-fn note_off(s: Instrument, note: u8) -> Outcome
+fn note_off(s: Instrument, note: u8) -> Outcome<Instrument, Reply>
     ensures { Runs s (Call.control (Control.note_off note)) result }
 {
     s.note_off(note)
 }
 
-fn pedal(s: Instrument, down: bool) -> Outcome
+fn pedal(s: Instrument, down: bool) -> Outcome<Instrument, Reply>
     ensures { Runs s (Call.control (Control.pedal down)) result }
 {
     s.set_sustain(down)
 }
 
-fn bend(s: Instrument, factor: f32) -> Outcome
+fn bend(s: Instrument, factor: f32) -> Outcome<Instrument, Reply>
     ensures { Runs s (Call.control (Control.bend factor)) result }
 {
     s.set_bend(factor)
 }
 
-fn brightness(s: Instrument, scale: f32) -> Outcome
+fn brightness(s: Instrument, scale: f32) -> Outcome<Instrument, Reply>
     ensures { Runs s (Call.control (Control.brightness scale)) result }
 {
     s.set_brightness(scale)
 }
 
-fn release(s: Instrument, handle: u64) -> Outcome
+fn release(s: Instrument, handle: u64) -> Outcome<Instrument, Reply>
     ensures { Runs s (Call.control (Control.release handle)) result }
 {
     s.release(handle)
 }
 
-fn all_off(s: Instrument) -> Outcome
+fn all_off(s: Instrument) -> Outcome<Instrument, Reply>
     ensures { Runs s (Call.control Control.all_off) result }
 {
     s.all_notes_off()
@@ -63,13 +64,13 @@ fn plan(
     filter: f32,
     sine: f32,
     curve: &mut [f32],
-) -> Outcome
+) -> Outcome<Instrument, Reply>
     ensures { PlanRuns s frames vibrato filter sine curve.old curve.new result }
 {
     s.plan(frames, vibrato, filter, sine, curve)
 }
 
-fn mix(s: Instrument, samples: &[f32], out: &mut [f32]) -> MixOutcome
+fn mix(s: Instrument, samples: &[f32], out: &mut [f32]) -> Outcome<Instrument, Report>
     ensures { MixRuns s samples.now out.old out.new result }
 {
     s.mix(samples, out)

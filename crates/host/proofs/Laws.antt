@@ -1,4 +1,5 @@
 -- From a call of the instrument on what was read to what the call promises to a host.
+use Rattle.std.specs.Prelude.{Option, Result, Ok}
 use mathlib.Core.Path.{◌≡◌, refl, ap, sym, ◌∙◌}
 use mathlib.Core.Bool.{Bool, true, false}
 use mathlib.Core.List.{List}
@@ -18,15 +19,15 @@ use Rattle.model.specs.Step.{refusal, lent_to, step}
 use Rattle.model.specs.Queries.{Answer}
 use Rattle.model.proofs.Refusals.{refused-by, step-refused}
 use Rattle.instrument.specs.declared.Instrument.{Instrument}
-use Rattle.instrument.specs.declared.NewInstrument.{NewInstrument}
-use Rattle.instrument.specs.declared.MixReply.{MixReply}
-use Rattle.instrument.specs.declared.MixReply.TheVariants.{Mixed, Refused}
-use Rattle.instrument.specs.declared.MixOutcome.{MixOutcome}
-use Rattle.instrument.specs.declared.Answer as code
-use Rattle.instrument.specs.declared.Outcome as gave
+use Rattle.instrument.specs.declared.Report.{Report}
+use Rattle.instrument.specs.declared.Reply as code
+use Rattle.instrument.specs.declared.Reply.TheVariants.{Started, Silent, Kept, Off, Done, Released, Planned}
+use Rattle.outcome.specs.declared.Outcome as gave
+use Rattle.outcome.specs.declared.Refusal.{Refusal}
+use Rattle.outcome.specs.Numbers.{number_of}
 use Rattle.instrument.specs.View.{view, counted}
-use Rattle.instrument.specs.Calls.{reply_of, refusal_of, reply_to, lent_of, StepAs, StartAs}
-use Rattle.instrument.specs.Asked.{answer_of, asked_of, VoiceAs}
+use Rattle.instrument.specs.Calls.{Called, reply_of, refusal_of, reply_to, lent_of, StepAs, StartAs}
+use Rattle.instrument.specs.Asked.{handle_of, asked_of, VoiceAs}
 use Rattle.instrument.specs.Mixes.{mix_reply_of, MixAs}
 use Rattle.wire.specs.declared.HostDesign.{HostDesign}
 use Rattle.wire.specs.declared.HostEnv.{HostEnv}
@@ -135,37 +136,26 @@ module _ (h : HostState) (s : Instrument) (sure : numbered h ≡ true) (from : R
         }
 
   -- the report of a Mix is that of its reply
-  pub hosted-report : (samples old : List Float) (o : MixOutcome) (new : List Float) → MixAs s samples old new o → o.ended ≡ report_of (host_reply h (Call.mix samples old))
-  hosted-report samples old o new m = by o.reply refl
-    where
-      c : Call
-      c = Call.mix samples old
+  pub hosted-report : (samples old : List Float) (o : gave.Outcome Instrument Report) (new : List Float) → MixAs s samples old new o
+      → report_of (mix_reply_of o.reply) ≡ report_of (host_reply h (Call.mix samples old))
+  hosted-report samples old o new m = ap report_of (m.call.reply ∙ same-reply (Call.mix samples old))
 
-      replied : mix_reply_of o.reply o.ended ≡ host_reply h c
-      replied = m.call.reply ∙ same-reply c
-
-      by : (x : MixReply) → o.reply ≡ x → o.ended ≡ report_of (host_reply h c)
-      by (Mixed n) e = ap (λ (x : MixReply). report_of (mix_reply_of x o.ended)) (sym e) ∙ ap report_of replied
-      by (Refused n) e =
-          let q : Reply.refused n ≡ host_reply h c = ap (λ (x : MixReply). mix_reply_of x o.ended) (sym e) ∙ replied in
-          m.nobody (λ z. refusal-only c (sym (same-refusal c) ∙ z) (ap (λ (x : Reply). (said_of x).kind) (sym q))) ∙ ap report_of q
-
-  pub hosted-answer : (a : code.Answer) (f : Model → Answer) (r : HostReply) → answer_of a ≡ asked_of s (f (view s)) → r ≡ said_answer (answer_of a) → r ≡ said_answer (host_asked h (f (model_of h)))
+  pub hosted-answer : (a : Answer) (f : Model → Answer) (r : HostReply) → a ≡ asked_of s (f (view s)) → r ≡ said_answer a → r ≡ said_answer (host_asked h (f (model_of h)))
   unfolding asked_of host_asked
   hosted-answer a f r e q =
       let z : asked_of s (f (view s)) ≡ host_asked h (f (model_of h)) = rw (room, sure, from.view) in
       q ∙ ap said_answer (e ∙ z)
 
-  pub hosted-voice : (note : ℕ) (a : code.Answer) (r : HostReply) → VoiceAs s note a → r ≡ said_answer (answer_of a) → HostVoiceAs h note r
+  pub hosted-voice : (note : ℕ) (a : Result (Option ℕ) Refusal) (r : HostReply) → VoiceAs s note a → r ≡ said_answer (handle_of a) → HostVoiceAs h note r
   hosted-voice note a r v q = record {
-    read = λ _. record { answer = answer_of a; names = rw (← from.view) (v.in_room room); says = q };
+    read = λ _. record { answer = handle_of a; names = rw (← from.view) (v.in_room room); says = q };
     unread = λ f. absurd (f sure);
   }
 
 -- ---- a call or a query between reading and writing, on whatever numbers
 
-pub hosted-call : (post : Instrument → gave.Outcome → Type 0) (h : HostState) (c : Call) (r : HostOutcome) → HostedBy post h r
-    → ((s : Instrument) (o : gave.Outcome) → post s o → StepAs s c (reply_of o.reply) o.state) → HostCallAs h c r
+pub hosted-call : (post : Instrument → Called → Type 0) (h : HostState) (c : Call) (r : HostOutcome) → HostedBy post h r
+    → ((s : Instrument) (o : Called) → post s o → StepAs s c (reply_of o.reply) o.state) → HostCallAs h c r
 hosted-call post h c r b f = by (numbered h) refl
   where
     by : (z : Bool) → numbered h ≡ z → HostCallAs h c r
@@ -174,20 +164,20 @@ hosted-call post h c r b f = by (numbered h) refl
         hosted h k.state sure k.from c (reply_of k.gave.reply) k.gave.state r.reply r.state (f k.state k.gave k.gives) k.hosts
     by false fails = unread-outcome h fails c r (b.unread fails)
 
-pub asked-answer : (post : Instrument → code.Answer → Type 0) (h : HostState) (q : Model → Answer) (r : HostReply) → AskedBy post h r
-    → ((s : Instrument) (a : code.Answer) → post s a → answer_of a ≡ asked_of s (q (view s))) → r ≡ said_answer (host_asked h (q (model_of h)))
+pub asked-answer : (post : Instrument → HostReply → Type 0) (h : HostState) (q : Model → Answer) (r : HostReply) → AskedBy post h r
+    → ((s : Instrument) (said : HostReply) → post s said → said ≡ said_answer (asked_of s (q (view s)))) → r ≡ said_answer (host_asked h (q (model_of h)))
 asked-answer post h q r b f = by (numbered h) refl
   where
     by : (z : Bool) → numbered h ≡ z → r ≡ said_answer (host_asked h (q (model_of h)))
-    by true sure = let k = b.read sure in hosted-answer h k.state sure k.from k.answer q r (f k.state k.answer k.gives) k.says
+    by true sure = let k = b.read sure in hosted-answer h k.state sure k.from _ q r refl (f k.state r k.gives)
     by false fails = unasked h fails (q (model_of h)) r (b.unread fails)
 
-pub asked-voice : (post : Instrument → code.Answer → Type 0) (h : HostState) (note : ℕ) (r : HostReply) → AskedBy post h r
-    → ((s : Instrument) (a : code.Answer) → post s a → VoiceAs s note a) → HostVoiceAs h note r
+pub asked-voice : (post : Instrument → HostReply → Type 0) (h : HostState) (note : ℕ) (r : HostReply) → AskedBy post h r
+    → ((s : Instrument) (said : HostReply) → post s said → (a : Result (Option ℕ) Refusal) × VoiceAs s note a × (said ≡ said_answer (handle_of a))) → HostVoiceAs h note r
 asked-voice post h note r b f = by (numbered h) refl
   where
     by : (z : Bool) → numbered h ≡ z → HostVoiceAs h note r
-    by true sure = let k = b.read sure in hosted-voice h k.state sure k.from note k.answer r (f k.state k.answer k.gives) k.says
+    by true sure = let k = b.read sure in let v = f k.state r k.gives in hosted-voice h k.state sure k.from note v.0 r v.1 v.2
     by false fails = unread-voice h fails note r (b.unread fails)
 
 -- the number of a yes or no
@@ -197,7 +187,7 @@ as-flag false n e = e
 
 -- ---- the start
 
-pub begun : (d : InstrumentDesign) (n : NewInstrument) (t : HostState) (r : HostReply) → StartAs d n → WrittenFrom n.state t → r ≡ said_start n.reply → BegunAs d (record { reply = r; state = t })
+pub begun : (d : InstrumentDesign) (n : gave.Outcome Instrument (Unit {0})) (t : HostState) (r : HostReply) → StartAs d n → WrittenFrom n.state t → r ≡ said_start n.reply → BegunAs d (record { reply = r; state = t })
 begun d n t r a w q = record { reply = q ∙ ap said_start a.reply; numbered = w.numbered ∙ a.in_room; state = w.model ∙ a.state }
 
 pub started : (d : HostDesign) (r : HostOutcome) → mode_numbered d ≡ true → BegunAs (design_of d) r → HostStartAs d r
@@ -229,11 +219,25 @@ unstarted d e r fails m b =
 
 -- ---- what is written after a call
 
-pub hosts-refused : (h : HostState) (said : Reply) (s : Instrument) (r : HostReply) → r ≡ said_of said → r.kind ≡ 0 → Hosts h said s r h
-hosts-refused h said s r e z = record { reply = e; refused = λ _. refl; written = λ f. absurd (f (ap (λ (x : HostReply). x.kind) (sym e) ∙ z)) }
+kind-some : (x : code.Reply) → (said_of (reply_of (Ok x))).kind ≡ 0 → ⊥
+kind-some (Started handle killed taken) e = omega arith
+kind-some (Silent handle) e = omega arith
+kind-some (Kept handle) e = omega arith
+kind-some (Off found) e = omega arith
+kind-some Done e = omega arith
+kind-some (Released found) e = omega arith
+kind-some Planned e = omega arith
 
-pub hosts-written : (h : HostState) (said : Reply) (s : Instrument) (r : HostReply) (t : HostState) → r ≡ said_of said → (r.kind ≡ 0 → ⊥) → WrittenFrom s t → Hosts h said s r t
-hosts-written h said s r t e f w = record { reply = e; refused = λ z. absurd (f (ap (λ (x : HostReply). x.kind) e ∙ z)); written = λ _. w }
+pub hosts-refused : (h : HostState) (refusal : Refusal) (s : Instrument) (r : HostReply) → r ≡ refusing (number_of refusal) → Hosts h (Reply.refused (number_of refusal)) s r h
+hosts-refused h refusal s r e = record { reply = e; refused = λ _. refl; written = λ f. absurd (f refl) }
+
+pub hosts-written : (h : HostState) (x : code.Reply) (s : Instrument) (r : HostReply) (t : HostState) → r ≡ said_of (reply_of (Ok x)) → WrittenFrom s t
+    → Hosts h (reply_of (Ok x)) s r t
+hosts-written h x s r t e w = record { reply = e; refused = λ z. absurd (kind-some x z); written = λ _. w }
+
+pub hosts-mixed : (h : HostState) (n : ℕ) (ended : List ℕ) (s : Instrument) (r : HostReply) (t : HostState) → r ≡ said_of (Reply.mixed n ended) → WrittenFrom s t
+    → Hosts h (Reply.mixed n ended) s r t
+hosts-mixed h n ended s r t e w = record { reply = e; refused = λ z. absurd (let y : ◌≡◌ {A = ℕ} 8 0 = z in omega arith); written = λ _. w }
 
 -- ---- the envelope's tick
 

@@ -1,9 +1,9 @@
 use mathlib.Core.Path.{refl}
-use Rattle.host.proofs.Laws.{hosts-refused, hosts-written}
+use Rattle.host.proofs.Laws.{hosts-refused, hosts-mixed}
 use Rattle.host.proofs.mix_outcome.Goals as goal
 
-pub returns-then-reply-eq0 : goal.returns-then-reply-eq0
-returns-then-reply-eq0 c = (refl, hosts-refused _ _ _ _ (c.from-reply.ensures _) c.if-reply-eq0.true)
+pub returns-in-Ok : goal.returns-in-Ok
+returns-in-Ok c = rw c.in-Ok.is (record { reported = refl; hosted = hosts-mixed _ _ _ _ _ _ ? c.into.ensures })
 
-pub returns : goal.returns
-returns c = (refl, hosts-written _ _ _ _ _ (c.from-reply.ensures _) c.if-reply-eq0.false c.into.ensures)
+pub returns-in-Err : goal.returns-in-Err
+returns-in-Err c = rw (c.in-Err.is, c.unmixed.ensures) (record { reported = refl; hosted = hosts-refused _ c.in-Err.refusal _ _ refl })

@@ -1,8 +1,8 @@
 use Rattle.host.proofs.Laws.{hosts-refused, hosts-written}
 use Rattle.host.proofs.outcome.Goals as goal
 
-pub returns-then-reply-eq0 : goal.returns-then-reply-eq0
-returns-then-reply-eq0 c = hosts-refused _ _ _ _ c.from-reply.ensures c.if-reply-eq0.true
+pub returns-in-Ok : goal.returns-in-Ok
+returns-in-Ok c = rw c.in-Ok.is (hosts-written _ _ _ _ _ c.into.ensures c.into-2.ensures)
 
-pub returns : goal.returns
-returns c = hosts-written _ _ _ _ _ c.from-reply.ensures c.if-reply-eq0.false c.into.ensures
+pub returns-in-Err : goal.returns-in-Err
+returns-in-Err c = rw (c.in-Err.is, c.refused.ensures) (hosts-refused _ c.in-Err.refusal _ _ refl)
