@@ -39,42 +39,37 @@ pub struct Modulation {
 }
 
 // An LFO counts where its depth and its rate are above 0.
+#[tactic(auto, unfolding(crate::specs::Accepted::lfo_active))]
 fn lfo_active(depth: f32, rate: f32) -> bool
     ensures { result ≡ lfo_active depth rate }
 {
-    if depth > 0.0 { rate > 0.0 } else { false }
+    depth > 0.0 && rate > 0.0
 }
 
 impl Modulation {
     // Whether any LFO counts.
+    #[tactic(auto, unfolding(crate::specs::Accepted::modulated))]
     pub fn is_active(self) -> bool
         ensures { result ≡ modulated self }
     {
-        if lfo_active(self.vibrato_cents, self.vibrato_rate) {
-            return true;
-        }
-        if lfo_active(self.tremolo_depth, self.tremolo_rate) {
-            return true;
-        }
-        lfo_active(self.filter_octaves, self.filter_rate)
+        lfo_active(self.vibrato_cents, self.vibrato_rate)
+            || lfo_active(self.tremolo_depth, self.tremolo_rate)
+            || lfo_active(self.filter_octaves, self.filter_rate)
     }
 
     // Whether all six are numbers.
+    #[tactic(auto, using(crate::proofs::Tests::six), unfolding(crate::specs::Accepted::modulation_finite, envelope::specs::Start::all_finite))]
     pub fn all_finite(self) -> bool
         ensures { result ≡ modulation_finite self }
     {
-        if !envelope::all_finite(
+        envelope::all_finite(&[
             self.vibrato_rate,
             self.vibrato_cents,
             self.tremolo_rate,
             self.tremolo_depth,
-        ) {
-            return false;
-        }
-        if !float32::is_finite(self.filter_rate) {
-            return false;
-        }
-        float32::is_finite(self.filter_octaves)
+            self.filter_rate,
+            self.filter_octaves,
+        ])
     }
 }
 
@@ -96,36 +91,23 @@ impl InstrumentDesign {
     fn numbers_fit(self) -> bool
         ensures { result ≡ numbers_fit self }
     {
-        if !envelope::rate_fits(self.sample_rate) {
-            return false;
-        }
-        if self.max_voices < 1 {
-            return false;
-        }
-        if 32 < self.max_voices {
-            return false;
-        }
-        self.unison <= 8
+        envelope::rate_fits(self.sample_rate)
+            && 1 <= self.max_voices
+            && self.max_voices <= 32
+            && self.unison <= 8
     }
 
+    #[tactic(auto, using(crate::proofs::Tests::six_and), unfolding(crate::specs::Accepted::floats_fit, envelope::specs::Start::all_finite))]
     fn floats_fit(self) -> bool
         ensures { result ≡ floats_fit self }
     {
         let amp = self.amp;
-        let modulation = self.modulation;
-        if !envelope::all_finite(amp.a, amp.d, amp.s, amp.r) {
-            return false;
-        }
-        if !float32::is_finite(self.unison_width) {
-            return false;
-        }
-        if !float32::is_finite(self.glide) {
-            return false;
-        }
-        modulation.all_finite()
+        let settings = [amp.a, amp.d, amp.s, amp.r, self.unison_width, self.glide];
+        envelope::all_finite(&settings) && self.modulation.all_finite()
     }
 
     // Numbers are looked at before floats.
+    #[tactic(auto, unfolding(crate::specs::Accepted::design_reply))]
     pub fn accepted(self) -> Result<(), Refusal>
         ensures { result ≡ design_reply self }
     {
@@ -139,10 +121,11 @@ impl InstrumentDesign {
     }
 
     // How many copies a voice has.
+    #[tactic(auto, unfolding(crate::specs::Accepted::copies_of))]
     pub fn copies(self) -> u32
         ensures { result ≡ copies_of self }
     {
-        if self.unison == 0 { 1 } else { self.unison }
+        self.unison.max(1)
     }
 }
 

@@ -3,7 +3,9 @@
 #![tactic(auto)]
 
 ghost use Rattle.std.specs.Prelude.{◌≡◌};
-ghost use Rattle.envelope.specs.Start.{rate_fits, all_finite, new_env, refused_env};
+ghost use Rattle.std.specs.List.{list_all};
+ghost use Rattle.std.specs.Float.Ieee.Scale.{finite};
+ghost use Rattle.envelope.specs.Start.{rate_fits, new_env, refused_env};
 ghost use Rattle.envelope.specs.Gates.{at, gated_on, gated_off, killed, is_active, is_faded};
 ghost use Rattle.envelope.specs.Ticks.{ticked, ticked_attack, ticked_decay, ticked_release};
 
@@ -35,29 +37,18 @@ pub struct EnvGen {
 }
 
 // Whether a sample rate lies within the limits.
+#[tactic(auto, unfolding(crate::specs::Start::rate_fits))]
 pub fn rate_fits(rate: u32) -> bool
     ensures { result ≡ rate_fits rate }
 {
-    if rate < 8_000 {
-        return false;
-    }
-    rate <= 192_000
+    8_000 <= rate && rate <= 192_000
 }
 
-// Whether all four settings are numbers.
-pub fn all_finite(a: f32, d: f32, s: f32, r: f32) -> bool
-    ensures { result ≡ all_finite a d s r }
+// Whether all settings are numbers.
+pub fn all_finite(settings: &[f32]) -> bool
+    ensures { result ≡ list_all finite settings.now }
 {
-    if !float32::is_finite(a) {
-        return false;
-    }
-    if !float32::is_finite(d) {
-        return false;
-    }
-    if !float32::is_finite(s) {
-        return false;
-    }
-    float32::is_finite(r)
+    settings.iter().all(|x| float32::is_finite(*x))
 }
 
 // A refused start comes with a record of zeros, Idle.
@@ -68,13 +59,14 @@ fn refused(reason: Refusal) -> Outcome<EnvGen, ()>
 }
 
 impl EnvGen {
+    // Four settings and no struct of them: the Rust's `EnvGen::new` takes them so.
     pub fn new(a: f32, d: f32, s: f32, r: f32, rate: u32) -> Outcome<EnvGen, ()>
         ensures { result ≡ new_env a d s r rate }
     {
         if !rate_fits(rate) {
             return refused(Refusal::OutsideLimits);
         }
-        if !all_finite(a, d, s, r) {
+        if !all_finite(&[a, d, s, r]) {
             return refused(Refusal::NotFinite);
         }
         let env = EnvGen {
@@ -91,35 +83,31 @@ impl EnvGen {
     }
 
     // The envelope in another stage at another level.
+    #[tactic(auto, unfolding(crate::specs::Gates::at))]
     fn at(self, stage: Stage, level: f32) -> EnvGen
         ensures { result ≡ at self stage level }
     {
         EnvGen {
-            a: self.a,
-            d: self.d,
-            s: self.s,
-            r: self.r,
-            sr: self.sr,
             stage,
             level,
-            rel_from: self.rel_from,
+            ..self
         }
     }
 
     // The attack starts from the present level.
-    pub fn gate_on(mut self) -> EnvGen
+    #[tactic(auto, unfolding(crate::specs::Gates::gated_on))]
+    pub fn gate_on(self) -> EnvGen
         ensures { result ≡ gated_on self }
     {
-        self = self.at(Stage::Attack, self.level);
-        self
+        self.at(Stage::Attack, self.level)
     }
 
     // The release runs down from the present level; an idle envelope stays as it is.
+    #[tactic(auto, unfolding(crate::specs::Gates::gated_off, crate::specs::Gates::released, crate::specs::Gates::at, crate::specs::Gates::is_idle))]
     pub fn gate_off(mut self) -> EnvGen
         ensures { result ≡ gated_off self }
     {
-        let stage = self.stage;
-        if let Stage::Idle = stage {
+        if self.stage == Stage::Idle {
             return self;
         }
         self.rel_from = self.level;
@@ -127,6 +115,7 @@ impl EnvGen {
     }
 
     // A stolen voice fades within 5 ms instead of being cut.
+    #[tactic(auto, unfolding(crate::specs::Gates::killed, crate::specs::Gates::with_release))]
     pub fn kill(mut self) -> EnvGen
         ensures { result ≡ killed self }
     {
@@ -135,11 +124,11 @@ impl EnvGen {
     }
 
     // True until the release has run down to silence.
+    #[tactic(auto, unfolding(crate::specs::Gates::is_active, crate::specs::Gates::is_idle))]
     pub fn active(self) -> bool
         ensures { result ≡ is_active self }
     {
-        let stage = self.stage;
-        if let Stage::Idle = stage { false } else { true }
+        self.stage != Stage::Idle
     }
 
     pub fn level(self) -> f32
@@ -149,30 +138,25 @@ impl EnvGen {
     }
 
     // True once a held note has decayed to silence.
+    #[tactic(auto, unfolding(crate::specs::Gates::is_faded, crate::specs::Gates::is_sustain))]
     pub fn faded(self) -> bool
         ensures { result ≡ is_faded self }
     {
-        let stage = self.stage;
-        if let Stage::Sustain = stage {
-            self.s <= 1e-4
-        } else {
-            false
-        }
+        self.stage == Stage::Sustain && self.s <= 1e-4
     }
 
     // One sample further. The record's level is the sample.
-    pub fn tick(mut self) -> EnvGen
+    #[tactic(auto, unfolding(crate::specs::Ticks::ticked, crate::specs::Ticks::ticked_in, crate::specs::Gates::at))]
+    pub fn tick(self) -> EnvGen
         ensures { result ≡ ticked self }
     {
-        let stage = self.stage;
-        match stage {
-            Stage::Idle => self.level = 0.0,
-            Stage::Attack => self = self.tick_attack(),
-            Stage::Decay => self = self.tick_decay(),
-            Stage::Sustain => self.level = self.s,
-            Stage::Release => self = self.tick_release(),
+        match self.stage {
+            Stage::Idle => self.at(Stage::Idle, 0.0),
+            Stage::Attack => self.tick_attack(),
+            Stage::Decay => self.tick_decay(),
+            Stage::Sustain => self.at(Stage::Sustain, self.s),
+            Stage::Release => self.tick_release(),
         }
-        self
     }
 
     fn tick_attack(self) -> EnvGen

@@ -1,4 +1,2 @@
-pub mod Itself
 pub mod Ordering
-pub mod Reciprocal
 pub mod Roots

@@ -1,5 +1,4 @@
 pub mod Numbers
-pub mod Tests
 pub mod Order
 pub mod OrderLaws
 pub mod Root

@@ -15,55 +15,63 @@ ghost use Rattle.float32.specs.OrderLaws.{OrderOfLevels};
 pub fn is_nan(x: f32) -> bool
     ensures { result ≡ is_nan x }
 {
-    x != x
+    x.is_nan()
 }
 
 pub fn is_finite(x: f32) -> bool
     ensures { result ≡ finite x }
 {
-    let infinity = 1.0f32 / 0.0;
-    if x < infinity { -infinity < x } else { false }
+    x.is_finite()
 }
 
 // The larger of two. A NaN gives the other, and two zeros give +0.
+// Not std's `max`, nor its `min` below: those leave open which of two zeros they give.
+#[tactic(auto, unfolding(crate::specs::Numbers::max_of))]
 pub fn max(a: f32, b: f32) -> f32
     ensures { result ≡ max_of a b }
 {
-    if a != a {
-        return b;
+    if a.is_nan() {
+        b
+    } else if b.is_nan() {
+        a
+    } else if a == 0.0 && b == 0.0 {
+        0.0
+    } else if a < b {
+        b
+    } else {
+        a
     }
-    if b != b {
-        return a;
-    }
-    if a == 0.0 {
-        if b == 0.0 {
-            return 0.0;
-        }
-    }
-    if a < b { b } else { a }
 }
 
 // The smaller of two. A NaN gives the other, and two zeros give the first.
+#[tactic(auto, unfolding(crate::specs::Numbers::min_of))]
 pub fn min(a: f32, b: f32) -> f32
     ensures { result ≡ min_of a b }
 {
-    if a != a {
-        return b;
+    if a.is_nan() {
+        b
+    } else if b.is_nan() {
+        a
+    } else if b < a {
+        b
+    } else {
+        a
     }
-    if b != b {
-        return a;
-    }
-    if b < a { b } else { a }
 }
 
 // x within low and high. A NaN stays, and so does -0 at a bound of 0.
+// Not std's `clamp`: that one asks for low at most high, and here every float may be given.
+#[tactic(auto, unfolding(crate::specs::Numbers::clamp_of))]
 pub fn clamp(x: f32, low: f32, high: f32) -> f32
     ensures { result ≡ clamp_of x low high }
 {
     if x < low {
-        return low;
+        low
+    } else if high < x {
+        high
+    } else {
+        x
     }
-    if high < x { high } else { x }
 }
 
 // x minus its whole part.
@@ -77,20 +85,14 @@ pub fn fract(x: f32) -> f32
 pub fn total_below(a: f32, b: f32) -> bool
     ensures { result ≡ below a b }
 {
-    if a != a {
-        return false;
+    // std's order takes no NaN.
+    if a.is_nan() {
+        false
+    } else if b.is_nan() {
+        true
+    } else {
+        a.total_cmp(&b).is_lt()
     }
-    if b != b {
-        return true;
-    }
-    if a < b {
-        return true;
-    }
-    if b < a {
-        return false;
-    }
-    // Equal numbers: only a zero has a reciprocal that tells the signs apart.
-    1.0 / a < 1.0 / b
 }
 
 // The roots of 0 to 8.
@@ -104,7 +106,7 @@ pub fn root(n: u8) -> f32
     ensures { result ≡ root_of n }
 {
     if n > 8 {
-        return 0.0 / 0.0;
+        return f32::NAN;
     }
     ROOTS[n as usize]
 }
@@ -119,12 +121,12 @@ pub fn order_of_levels()
     ensures { OrderOfLevels }
 {}
 
-// The float of a bit pattern. Every NaN pattern gives a NaN.
+// The float of a bit pattern. Every NaN pattern gives a NaN: std's takes none, nor does its `to_bits` take a NaN.
 pub fn from_bits(b: u32) -> f32
     ensures { result ≡ of_bits binary32 b }
 {
     if b % 0x8000_0000 > 0x7f80_0000 {
-        return 0.0 / 0.0;
+        return f32::NAN;
     }
     f32::from_bits(b)
 }
@@ -133,7 +135,7 @@ pub fn from_bits(b: u32) -> f32
 pub fn to_bits(x: f32) -> u32
     ensures { result ≡ to_bits binary32 x }
 {
-    if x != x {
+    if x.is_nan() {
         return 0x7fc0_0000;
     }
     f32::to_bits(x)

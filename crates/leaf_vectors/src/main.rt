@@ -36,8 +36,7 @@ fn flag(b: bool) -> u32 {
 }
 
 fn stage_number(e: EnvGen) -> u32 {
-    let stage = e.stage;
-    match stage {
+    match e.stage {
         Stage::Idle => 0,
         Stage::Attack => 1,
         Stage::Decay => 2,
@@ -127,13 +126,11 @@ fn env_line(rt: &impl Print, leaf: Leaf, s: &[u8]) -> io::Result<Leaf> {
 }
 
 fn gated(e: EnvGen, kind: u32) -> EnvGen {
-    if kind == 0 {
-        return e.gate_on();
+    match kind {
+        0 => e.gate_on(),
+        1 => e.gate_off(),
+        _ => e.kill(),
     }
-    if kind == 1 {
-        return e.gate_off();
-    }
-    e.kill()
 }
 
 // G: gate_on, gate_off or kill.
@@ -159,11 +156,9 @@ fn mixed(sum: u32, x: u32) -> u32 {
 fn ticks(e: EnvGen, n: u32) -> Ticked {
     let mut env = e;
     let mut sum: u32 = 0;
-    let mut i: u32 = 0;
-    while i < n {
+    for _ in 0..n {
         env = env.tick();
         sum = mixed(sum, float32::to_bits(env.level));
-        i += 1;
     }
     Ticked { env, sum }
 }
@@ -178,67 +173,32 @@ fn tick_line(rt: &impl Print, mut leaf: Leaf, s: &[u8]) -> io::Result<Leaf> {
     Ok(leaf)
 }
 
+// Says a copy and keeps it.
+fn copied(rt: &impl Print, mut leaf: Leaf, letter: u8, copy: UnisonCopy) -> io::Result<Leaf> {
+    say_copy(rt, letter, copy)?;
+    leaf.copy = copy;
+    Ok(leaf)
+}
+
 // C: copy k of n at a width, under a bend and a brightness.
-fn copy_line(rt: &impl Print, mut leaf: Leaf, s: &[u8]) -> io::Result<Leaf> {
+fn new_copy(s: &[u8]) -> UnisonCopy {
     let k = (field(s, 0) % 256) as u8;
     let n = (field(s, 1) % 256) as u8;
-    let new = UnisonCopy::new(k, n, float(s, 2));
-    let c = new.catch_up(float(s, 3), float(s, 4));
-    say_copy(rt, b'C', c)?;
-    leaf.copy = c;
-    Ok(leaf)
+    UnisonCopy::new(k, n, float(s, 2)).catch_up(float(s, 3), float(s, 4))
 }
 
-// P: glide_pitch. B: set_bend. F: set_cutoff.
-fn pitched(c: UnisonCopy, letter: u8, s: &[u8]) -> UnisonCopy {
-    if letter == b'P' {
-        return c.glide_pitch(float(s, 0), float(s, 1));
+// Up to eight numbers of a curve, and 0 behind its end.
+fn say_eight(rt: &impl Print, part: &[f32]) -> io::Result<()> {
+    let mut words = [0u32; 8];
+    for (word, x) in words.iter_mut().zip(part) {
+        *word = float32::to_bits(*x);
     }
-    if letter == b'B' {
-        return c.set_bend(float(s, 0));
-    }
-    c.set_cutoff(float(s, 0))
-}
-
-fn pitch_line(rt: &impl Print, mut leaf: Leaf, letter: u8, s: &[u8]) -> io::Result<Leaf> {
-    let before = leaf.copy;
-    let c = pitched(before, letter, s);
-    say_copy(rt, letter, c)?;
-    leaf.copy = c;
-    Ok(leaf)
-}
-
-// Number `at` of a curve, and 0 behind its end.
-fn number(curve: &[f32], at: usize) -> u32 {
-    if at < curve.len() {
-        float32::to_bits(curve[at])
-    } else {
-        0
-    }
-}
-
-fn say_eight(rt: &impl Print, curve: &[f32], at: usize) -> io::Result<()> {
-    if at >= curve.len() {
-        return Ok(());
-    }
-    let words = [
-        number(curve, at),
-        number(curve, at + 1),
-        number(curve, at + 2),
-        number(curve, at + 3),
-        number(curve, at + 4),
-        number(curve, at + 5),
-        number(curve, at + 6),
-        number(curve, at + 7),
-    ];
     say(rt, b'l', words)
 }
 
 fn say_curve(rt: &impl Print, curve: &[f32]) -> io::Result<()> {
-    let mut at: usize = 0;
-    while at < curve.len() {
-        say_eight(rt, curve, at)?;
-        at += 8;
+    for part in curve.chunks(8) {
+        say_eight(rt, part)?;
     }
     Ok(())
 }
@@ -263,13 +223,10 @@ fn glided_part(
 }
 
 // L: glide_block of that many frames, 1,024 at most.
-fn glide_line(rt: &impl Print, mut leaf: Leaf, s: &[u8]) -> io::Result<Leaf> {
+fn glide_line(rt: &impl Print, leaf: Leaf, s: &[u8]) -> io::Result<Leaf> {
     let mut curve = [0f32; 1024];
-    let before = leaf.copy;
-    let c = glided_part(rt, before, &mut curve, field(s, 0) as usize)?;
-    say_copy(rt, b'L', c)?;
-    leaf.copy = c;
-    Ok(leaf)
+    let c = glided_part(rt, leaf.copy, &mut curve, field(s, 0) as usize)?;
+    copied(rt, leaf, b'L', c)
 }
 
 // M: whether six settings modulate.
@@ -313,8 +270,15 @@ fn step(rt: &impl Print, leaf: Leaf, letter: u8, s: &[u8]) -> io::Result<Leaf> {
         b'E' => env_line(rt, leaf, s),
         b'G' => gate_line(rt, leaf, s),
         b'T' => tick_line(rt, leaf, s),
-        b'C' => copy_line(rt, leaf, s),
-        b'P' | b'B' | b'F' => pitch_line(rt, leaf, letter, s),
+        b'C' => copied(rt, leaf, letter, new_copy(s)),
+        b'P' => copied(
+            rt,
+            leaf,
+            letter,
+            leaf.copy.glide_pitch(float(s, 0), float(s, 1)),
+        ),
+        b'B' => copied(rt, leaf, letter, leaf.copy.set_bend(float(s, 0))),
+        b'F' => copied(rt, leaf, letter, leaf.copy.set_cutoff(float(s, 0))),
         b'L' => glide_line(rt, leaf, s),
         b'M' => modulation_line(rt, leaf, s),
         b'D' => {
@@ -333,40 +297,27 @@ fn step(rt: &impl Print, leaf: Leaf, letter: u8, s: &[u8]) -> io::Result<Leaf> {
     }
 }
 
-#[derive(Clone, Copy)]
-struct Answered {
-    leaf: Leaf,
-    more: bool,
-}
-
 // Reads a line and answers it; a short one ends the run.
-fn turn(rt: &impl Print, input: &mut impl Read, leaf: Leaf) -> io::Result<Answered> {
+fn turn(rt: &impl Print, input: &mut impl Read, leaf: Leaf) -> io::Result<Option<Leaf>> {
     let mut line = [0u8; 65];
     if let Err(e) = input.read_exact(&mut line) {
         if e.kind() == ErrorKind::UnexpectedEof {
-            return Ok(Answered { leaf, more: false });
+            return Ok(None);
         }
         return Err(e);
     }
-    let after = step(rt, leaf, line[0], &line)?;
-    Ok(Answered {
-        leaf: after,
-        more: true,
-    })
+    Ok(Some(step(rt, leaf, line[0], &line)?))
 }
 
 // A proved loop has to end, and nothing says that the input does: it counts up to what no run reaches.
 fn main(rt: HostRuntime) -> io::Result<()> {
     let mut input = rt.stdin();
-    let mut now = Answered {
-        leaf: start(),
-        more: true,
-    };
+    let mut leaf = start();
     for _ in 0..u64::MAX {
-        if !now.more {
+        let Some(after) = turn(&rt, &mut input, leaf)? else {
             break;
-        }
-        now = turn(&rt, &mut input, now.leaf)?;
+        };
+        leaf = after;
     }
     Ok(())
 }

@@ -8,19 +8,11 @@ use std::io;
 fn digit(b: u8) -> u32
     ensures { result < 16 }
 {
-    if b < b'0' {
-        return 0;
+    match b {
+        b'0'..=b'9' => (b - b'0') as u32,
+        b'A'..=b'F' => (b - b'A') as u32 + 10,
+        _ => 0,
     }
-    if b <= b'9' {
-        return (b - b'0') as u32;
-    }
-    if b < b'A' {
-        return 0;
-    }
-    if b <= b'F' {
-        return (b - 55) as u32;
-    }
-    0
 }
 
 fn byte_at(s: &[u8], at: usize) -> u8 {
@@ -30,11 +22,9 @@ fn byte_at(s: &[u8], at: usize) -> u8 {
 // The word whose digits start at `at`.
 fn word(s: &[u8], at: u8) -> u32 {
     let mut value: u32 = 0;
-    let mut i: u8 = 0;
-    while i < 8 {
-        let d = digit(byte_at(s, at as usize + i as usize));
+    for i in 0..8 {
+        let d = digit(byte_at(s, at as usize + i));
         value = value % 0x1000_0000 * 16 + d;
-        i += 1;
     }
     value
 }
@@ -52,13 +42,11 @@ pub fn float(s: &[u8], k: u8) -> f32 {
 }
 
 fn glyph(d: u32) -> u8 {
-    if d < 10 {
-        return 48 + d as u8;
+    match d {
+        0..=9 => b'0' + d as u8,
+        10..=15 => b'A' + (d - 10) as u8,
+        _ => b'?',
     }
-    if d < 16 {
-        return 55 + d as u8;
-    }
-    b'?'
 }
 
 fn put(out: &mut [u8; 74], at: usize, b: u8) {
@@ -69,19 +57,15 @@ fn put(out: &mut [u8; 74], at: usize, b: u8) {
 
 fn put_word(out: &mut [u8; 74], at: u8, x: u32) {
     let mut rest = x;
-    let mut i: u8 = 8;
-    while i > 0 {
-        i -= 1;
-        put(out, at as usize + i as usize, glyph(rest % 16));
+    for i in (0..8usize).rev() {
+        put(out, at as usize + i, glyph(rest % 16));
         rest = rest / 16;
     }
 }
 
 fn put_words(out: &mut [u8; 74], words: [u32; 8]) {
-    let mut i: u8 = 0;
-    while i < 8 {
+    for i in 0..8u8 {
         put_word(out, 2 + 9 * i, words[i as usize]);
-        i += 1;
     }
 }
 

@@ -2,37 +2,18 @@
 
 #![tactic(auto)]
 
-ghost use Rattle.std.specs.Prelude.{◌≡◌, true, ◌*◌, ◌≤◌, min, eqb};
+ghost use Rattle.std.specs.Prelude.{◌≡◌, ◌*◌, min, eqb};
 
 // The smaller of two sizes: a pass never leaves its array.
 pub fn smaller(a: usize, b: usize) -> usize
     ensures { result ≡ min a b }
 {
-    if a < b { a } else { b }
+    a.min(b)
 }
 
-// Whether both are so small that their product fits.
-fn small(a: usize, b: usize) -> bool
-    ensures { result ≡ true → (a ≤ 0xffff) × (b ≤ 0xffff) }
-{
-    if 0xffff < a {
-        return false;
-    }
-    b <= 0xffff
-}
-
-// Whether rows of `frames` numbers fill `len` places. The product may not fit; a division is slow.
+// Whether rows of `frames` numbers fill `len` places. The product always fits at twice the width.
 pub fn fills(frames: usize, rows: usize, len: usize) -> bool
     ensures { result ≡ eqb (frames * rows) len }
 {
-    if small(frames, rows) {
-        return frames * rows == len;
-    }
-    if rows == 0 {
-        return len == 0;
-    }
-    if len % rows != 0 {
-        return false;
-    }
-    len / rows == frames
+    frames as u128 * rows as u128 == len as u128
 }

@@ -21,6 +21,7 @@ pub struct UnisonCopy {
 }
 
 // Copies lie evenly over -1 to 1; a single one is in the middle.
+#[tactic(auto, unfolding(crate::specs::Copies::spread_of))]
 fn spread(k: u8, n: u8) -> f32
     ensures { result ≡ spread_of k n }
 {
@@ -32,6 +33,7 @@ fn spread(k: u8, n: u8) -> f32
 
 impl UnisonCopy {
     // Copy k of n at the stereo width `width`. A stack is no louder than one copy.
+    #[tactic(auto, unfolding(crate::specs::Copies::new_copy, crate::specs::Copies::pan_of, crate::specs::Copies::norm_of))]
     pub fn new(k: u8, n: u8, width: f32) -> UnisonCopy
         ensures { result ≡ new_copy k n width }
     {
@@ -49,6 +51,7 @@ impl UnisonCopy {
     }
 
     // A new copy takes over the wheel and the brightness where they have been moved.
+    #[tactic(auto, unfolding(crate::specs::Copies::caught_up))]
     pub fn catch_up(self, bend: f32, brightness: f32) -> UnisonCopy
         ensures { result ≡ caught_up bend brightness self }
     {
@@ -76,6 +79,7 @@ impl UnisonCopy {
     }
 
     // The pitch aims at `scale` and moves by `coeff` of the way per sample; a NaN coefficient snaps.
+    #[tactic(auto, unfolding(crate::specs::Pitch::glided_to, crate::specs::Pitch::pitched, crate::specs::Pitch::coefficient))]
     pub fn glide_pitch(mut self, scale: f32, coeff: f32) -> UnisonCopy
         ensures { result ≡ glided_to scale coeff self }
     {
@@ -89,6 +93,7 @@ impl UnisonCopy {
     }
 
     // The wheel's factor acts at once, on top of the pitch.
+    #[tactic(auto, unfolding(crate::specs::Pitch::bent, crate::specs::Pitch::with_bend))]
     pub fn set_bend(mut self, mul: f32) -> UnisonCopy
         ensures { result ≡ bent mul self }
     {
@@ -96,19 +101,12 @@ impl UnisonCopy {
         self
     }
 
-    pub fn set_cutoff(self, scale: f32) -> UnisonCopy
+    #[tactic(auto, unfolding(crate::specs::Pitch::cut_to, crate::specs::Pitch::with_cutoff))]
+    pub fn set_cutoff(mut self, scale: f32) -> UnisonCopy
         ensures { result ≡ cut_to scale self }
     {
-        let least = float32::max(scale, 0.01);
-        UnisonCopy {
-            l: self.l,
-            r: self.r,
-            pitch: self.pitch,
-            pitch_target: self.pitch_target,
-            glide: self.glide,
-            bend: self.bend,
-            cutoff: Some(least),
-        }
+        self.cutoff = Some(float32::max(scale, 0.01));
+        self
     }
 
     // Writes the pitch of the next `out.len()` samples and gives the copy as it is after them.
@@ -119,11 +117,9 @@ impl UnisonCopy {
         let glide = self.glide;
         let bend = self.bend;
         let mut pitch = self.pitch;
-        let mut i: usize = 0;
-        while i < out.len() {
+        for place in out {
             pitch = pitch + (target - pitch) * glide;
-            out[i] = pitch * bend;
-            i += 1;
+            *place = pitch * bend;
         }
         self.pitch = pitch;
         self

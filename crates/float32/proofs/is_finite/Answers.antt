@@ -1,27 +1,15 @@
-use mathlib.Core.Path.{◌≡◌, refl, sym}
-use mathlib.Core.Bool.{Bool, true, false}
-use lib.Ieee.{Float, nan, inf, fin, lt, neg, div, binary32, of_bits}
-use lib.Ieee.Scale.{finite}
-use Rattle.float32.specs.Numbers.{zero, one}
+-- Both definitions take every float that is a number.
+use Rattle.std.proofs.Common.{◌≡◌, refl, ◌∙◌}
+use Rattle.std.specs.Prelude.{Float}
+use Rattle.std.specs.Float.{nan, inf, fin, float_is_finite}
+use Rattle.std.specs.Float.Ieee.Scale.{finite}
 use Rattle.float32.proofs.is_finite.Goals as goal
 
--- what is below +∞ is finite where it is above -∞, and what is not below +∞ is not finite
+alike : (x : Float) → float_is_finite x ≡ finite x
+unfolding float_is_finite
+alike nan = refl
+alike (inf s) = refl
+alike (fin s m e) = refl
 
-low : (x : Float) → lt x (div binary32 one zero) ≡ true → lt (neg (div binary32 one zero)) x ≡ finite x
-unfolding lt neg div of_bits
-low nan h = refl
-low (inf true) h = refl
-low (inf false) h = let z : ◌≡◌ {A = Bool} false true = h in cc
-low (fin s m e) h = refl
-
-high : (x : Float) → lt x (div binary32 one zero) ≡ false → false ≡ finite x
-unfolding lt div of_bits
-high nan h = refl
-high (inf s) h = refl
-high (fin s m e) h = sym h
-
-pub returns-then-x-infinity : goal.returns-then-x-infinity
-returns-then-x-infinity c = low c.args.x c.if-x-infinity.true
-
-pub returns-else-x-infinity : goal.returns-else-x-infinity
-returns-else-x-infinity c = high c.args.x c.if-x-infinity.false
+pub returns : goal.returns
+returns c = c.is_finite.ensures.value ∙ alike c.args.x
