@@ -6,4 +6,4 @@ pub returns-then-reply-eq0 : goal.returns-then-reply-eq0
 returns-then-reply-eq0 c = (refl, hosts-refused _ _ _ _ (c.from-reply.ensures _) c.if-reply-eq0.true)
 
 pub returns : goal.returns
-returns c = (refl, hosts-written _ _ _ _ _ (c.from-reply.ensures _) c.if-reply-eq0.false c.into.ensures)
+returns c = (refl, hosts-written _ _ _ _ _ (c.from-reply.ensures _) c.if-reply-eq0.false c.from.ensures)

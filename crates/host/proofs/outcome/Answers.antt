@@ -5,4 +5,4 @@ pub returns-then-reply-eq0 : goal.returns-then-reply-eq0
 returns-then-reply-eq0 c = hosts-refused _ _ _ _ c.from-reply.ensures c.if-reply-eq0.true
 
 pub returns : goal.returns
-returns c = hosts-written _ _ _ _ _ c.from-reply.ensures c.if-reply-eq0.false c.into.ensures
+returns c = hosts-written _ _ _ _ _ c.from-reply.ensures c.if-reply-eq0.false c.from.ensures
