@@ -48,6 +48,7 @@ pub struct HostReply {
     // The number of the refusal.
     pub number: u32,
     pub handle: u64,
+    // 0 for none, since an Option cannot cross.
     pub killed: u64,
     pub taken: u64,
     // Of off, released and active: 0 or 1.
@@ -196,7 +197,7 @@ fn outcome(h: HostState, made: Outcome<Instrument, Reply>) -> HostOutcome
     match made.reply {
         Ok(reply) => HostOutcome {
             reply: reply.into(),
-            state: made.state.into(),
+            state: HostState::from(&made.state),
         },
         Err(refusal) => refused(h, refusal),
     }
@@ -219,7 +220,7 @@ fn hosted<F: FnOnce(Instrument) -> Outcome<Instrument, Reply>>(
     requires { F.IsAlwaysCallable call }
     ensures { HostedBy (F.post call) h result }
 {
-    match Instrument::try_from(h) {
+    match Instrument::try_from(&h) {
         Ok(s) => outcome(h, call(s)),
         Err(refusal) => refused(h, refusal),
     }
@@ -230,7 +231,7 @@ fn asked<F: FnOnce(Instrument) -> HostReply>(h: HostState, ask: F) -> HostReply
     requires { F.IsAlwaysCallable ask }
     ensures { AskedBy (F.post ask) h result }
 {
-    match Instrument::try_from(h) {
+    match Instrument::try_from(&h) {
         Ok(s) => ask(s),
         Err(refusal) => refusal.into(),
     }
@@ -242,7 +243,7 @@ fn begin(design: InstrumentDesign) -> HostOutcome
     let made = Instrument::new(design);
     HostOutcome {
         reply: made.reply.into(),
-        state: made.state.into(),
+        state: HostState::from(&made.state),
     }
 }
 
@@ -315,7 +316,7 @@ pub fn cirstumbe_plan(
     ensures { HostPlanAs h frames vibrato filter tremolo_sine curve.old curve.new result }
 {
     // Not by `hosted`: the contract of a closure that is handed on says nothing of the memory that it is lent.
-    match Instrument::try_from(h) {
+    match Instrument::try_from(&h) {
         Ok(s) => outcome(h, s.plan(frames, vibrato, filter, tremolo_sine, curve)),
         Err(refusal) => refused(h, refusal),
     }
@@ -333,7 +334,7 @@ fn mix_outcome(h: HostState, made: Outcome<Instrument, Report>) -> HostMixOutcom
                 ..Kind::Mixed.into()
             },
             ended: report.ended,
-            state: made.state.into(),
+            state: HostState::from(&made.state),
         },
         Err(refusal) => unmixed(h, refusal),
     }
@@ -352,7 +353,7 @@ fn unmixed(h: HostState, refusal: Refusal) -> HostMixOutcome
 pub fn cirstumbe_mix(h: HostState, samples: &[f32], out: &mut [f32]) -> HostMixOutcome
     ensures { HostMixAs h samples.now out.old out.new result }
 {
-    match Instrument::try_from(h) {
+    match Instrument::try_from(&h) {
         Ok(s) => mix_outcome(h, s.mix(samples, out)),
         Err(refusal) => unmixed(h, refusal),
     }

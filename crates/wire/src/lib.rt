@@ -1,5 +1,5 @@
-// The state as a host in C or Rust keeps it: numbers alone, since an enum cannot cross. A number stands for each
-// mode, stage and yes or no.
+// The state as a host in C or Rust keeps it: numbers alone, since an enum cannot cross, and arrays with a count beside,
+// since a slice cannot. A number stands for each mode, stage and yes or no.
 
 #![tactic(auto)]
 
@@ -105,7 +105,7 @@ pub struct HostState {
     pub frames: usize,
 }
 
-// A mode is the number's alone: neither type is this crate's, so no `From` can stand here.
+// No `From`, since neither the number nor the mode is a type of this crate.
 #[tactic(auto, unfolding(crate::specs::Reads::mode_of))]
 fn mode_of(number: u32) -> PlayMode
     ensures { result ≡ mode_of number }
@@ -117,7 +117,7 @@ fn mode_of(number: u32) -> PlayMode
     }
 }
 
-// As with a mode, neither type is this crate's.
+// No `From` either.
 #[tactic(auto, unfolding(crate::specs::Reads::stage_of))]
 fn stage_of(number: u32) -> Stage
     ensures { result ≡ stage_of number }
@@ -235,12 +235,13 @@ impl From<HostVoice> for Voice {
     }
 }
 
-impl TryFrom<HostState> for Instrument {
+// By reference, which spares a copy of all the numbers, as does the way back.
+impl TryFrom<&HostState> for Instrument {
     type Error = Refusal;
 
-    ghost try_from_gives = { ReadAs };
+    ghost try_from_gives = { λ h r. ReadAs h.now r };
 
-    fn try_from(h: HostState) -> Result<Instrument, Refusal> {
+    fn try_from(h: &HostState) -> Result<Instrument, Refusal> {
         if !h.is_numbered() {
             return Err(Refusal::Malformed);
         }

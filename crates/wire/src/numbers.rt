@@ -66,7 +66,7 @@ impl HostState {
     }
 }
 
-// As with the reading, neither type is this crate's.
+// No `From`, as with the reading.
 #[tactic(auto, unfolding(crate::specs::Reads::mode_of))]
 fn mode_number(mode: PlayMode) -> u32
     ensures { (mode_of result ≡ mode) × (leb result 2 ≡ true) }
@@ -169,10 +169,10 @@ impl From<Voice> for HostVoice {
 }
 
 // The numbers of a state, up to its counts.
-impl From<Instrument> for HostState {
-    ghost from_gives = { WrittenFrom };
+impl From<&Instrument> for HostState {
+    ghost from_gives = { λ s r. WrittenFrom s.now r };
 
-    fn from(s: Instrument) -> HostState {
+    fn from(s: &Instrument) -> HostState {
         HostState {
             design: s.design.into(),
             voices: first_made(&s.table.voices, s.table.count, HostVoice::from),

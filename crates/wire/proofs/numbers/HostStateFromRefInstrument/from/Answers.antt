@@ -9,12 +9,12 @@ use Rattle.instrument.specs.View.{view}
 use Rattle.wire.proofs.Loops.{alike}
 use Rattle.wire.proofs.Parts.{flag_back, voices-of, rooms, written-numbered}
 use Rattle.wire.specs.Reads.{seen_of, voice_numbered, model_of}
-use Rattle.wire.proofs.numbers.HostStateFromInstrument.from.Goals as goal
+use Rattle.wire.proofs.numbers.HostStateFromRefInstrument.from.Goals as goal
 
 pub returns : goal.returns
 unfolding view model_of
 returns c =
-    let s = c.args.s in
+    let s = c.args.s.now in
     let n = s.table.count in
     let from = take n s.table.voices in
     let made = take n c.first_made.result in

@@ -6,12 +6,12 @@ use Rattle.instrument.specs.View.{view}
 use Rattle.wire.proofs.Loops.{alike}
 use Rattle.wire.proofs.Parts.{voices-of, read-counted}
 use Rattle.wire.specs.Reads.{design_of, seen_of, model_of, numbered}
-use Rattle.wire.proofs.InstrumentTryFromHostState.try_from.Goals as goal
+use Rattle.wire.proofs.InstrumentTryFromRefHostState.try_from.Goals as goal
 
 pub returns : goal.returns
 unfolding view model_of
 returns c =
-    let h = c.args.h in
+    let h = c.args.h.now in
     let sure : numbered h ≡ true = sym c.is_numbered.ensures ∙ c.if-not-is_numbered.false in
     let design : c.into.result ≡ design_of h.design = c.into.ensures in
     let voices = alike _ seen_of seen (take h.voice_count h.voices) (take h.voice_count c.first_made.result) c.first_made.ensures (λ x y k. search rules) in
