@@ -2,17 +2,19 @@
 use mathlib.Core.Path.{◌≡◌, refl, ap, sym, ◌∙◌}
 use mathlib.Core.List.{List, [], ◌∷◌, ◌++◌, append_assoc}
 use Prim.Native.Nat.{ℕ, zero, suc, ◌+◌, ◌-◌, ◌*◌, ◌≤◌, ◌<◌}
-use native.Mathlib.Nat.{mul-suc, mul-add, mul-le-mul_left}
+use native.Mathlib.Nat.{mul-zero, mul-suc, mul-add}
 use native.Mathlib.Numerals.{add-one}
 use native.Mathlib.Omega.{arith}
 use lib.Ieee.{Float, nan, binary32, add, mul}
 use lib.ListN.{length, take, drop, get_or, set, length-set, length-take, length-drop}
-use lib.Seq.{get_or-drop, get_or-take, set-get_or, drop-drop, take-suc-set}
-use Rattle.lists.specs.Prefix.{take_more, fold, fold_more}
+use lib.Seq.{get_or-drop, set-get_or, drop-drop, take-suc-set}
+use Rattle.std.proofs.lemmas.List.{drop_all}
+use Rattle.lists.specs.Prefix.{take_more, take_min, drop_more, fold}
 use Rattle.stream.specs.declared.UnisonCopy.{UnisonCopy}
 use Rattle.model.specs.Mix.{add_side, Mixing, mixing, interleave}
-use Rattle.voice.specs.View.{no_copy}
-use Rattle.render.specs.Parts.{row, part_copy, Gains, add_four}
+use Rattle.voice.specs.declared.Voice.{Voice}
+use Rattle.voice.specs.View.{shown, no_copy}
+use Rattle.render.specs.Parts.{row, part_copy, framed}
 use Rattle.model.proofs.Laws.{length-add}
 
 -- ---- one frame
@@ -43,100 +45,107 @@ module _ (g : Float) where
   side-beyond (x ∷ xs) (e ∷ es) [] (suc f) d = refl
   side-beyond (x ∷ xs) (e ∷ es) (c ∷ cs) (suc f) d = side-beyond xs es cs f d
 
--- the same, of samples from `at` on and of m levels
-abbrev term_at : Float → List Float → List Float → ℕ → ℕ → Float
-term_at g xs es at f = mul binary32 (mul binary32 (get_or xs (at + f) nan) (get_or es f nan)) g
+-- the frame's sample is that of the whole list
+row_next : (g : Float) (xs es cs : List Float) (at f : ℕ) (x : Float) → at + f < length xs → f < length es → f < length cs
+    → add_side g (row at (f + 1) xs) es (set cs f x)
+    ≡ set (add_side g (row at f xs) es cs) f (add binary32 x (mul binary32 (mul binary32 (get_or xs (at + f) nan) (get_or es f nan)) g))
+row_next g xs es cs at f x hx he hc = rw (get_or-drop at xs f nan) at (side-next g (drop at xs) es cs f x (simp length-drop (omega arith)) he hc)
 
-term-at : (g : Float) (xs es : List Float) (at m f : ℕ) → f < m → term g (drop at xs) (take m es) f ≡ term_at g xs es at f
-term-at g xs es at m f h = rw (get_or-drop at xs f nan, get_or-take m es f nan h)
+-- ---- one frame of copies
 
-module _ (xs es cs : List Float) (at m f : ℕ) (hf : f < m) (hx : at + m ≤ length xs) (he : m ≤ length es) where
-  -- from sums cs in which x stands for the frame
-  row_next : (g : Float) (x : Float) → f < length cs
-      → add_side g (row at (f + 1) xs) (take m es) (set cs f x) ≡ set (add_side g (row at f xs) (take m es) cs) f (add binary32 x (term_at g xs es at f))
-  row_next g x hc =
-      rw (← term-at g xs es at m f hf)
-      (side-next g (drop at xs) (take m es) cs f x (simp length-drop (omega arith)) (simp length-take (omega arith)) hc)
+module _ (side : UnisonCopy → Float) (n : ℕ) where
+  -- one copy more
+  pub frame-turn : (at i : ℕ) (e s w : Float) (xs : List Float) (cs : List UnisonCopy) → i < length cs
+      → framed side n at e xs (drop i cs) s ≡ w
+      → framed side n (at + n) e xs (drop (i + 1) cs) (add binary32 s (mul binary32 (mul binary32 (get_or xs at nan) e) (side (get_or cs i no_copy)))) ≡ w
+  unfolding framed
+  frame-turn at i e s w xs cs h p = rw (drop_more cs i no_copy h) at p
 
-  pub one_more : (g : Float) (o : List Float) → f < length cs → o ≡ add_side g (row at f xs) (take m es) cs
-      → set o f (add binary32 (get_or o f nan) (term_at g xs es at f)) ≡ add_side g (row at (f + 1) xs) (take m es) cs
-  one_more g o hc p =
-      let d = rw (set-get_or cs f nan) at (row_next g (get_or cs f nan) hc) in
-      rw (p, side-beyond g (drop at xs) (take m es) cs f nan) (sym d)
+  pub frame-end : (at i : ℕ) (e s w : Float) (xs : List Float) (cs : List UnisonCopy) → length cs ≤ i → framed side n at e xs (drop i cs) s ≡ w → s ≡ w
+  unfolding framed
+  frame-end at i e s w xs cs h p = rw (drop_all i cs h) at p
 
-pub four-more : (g : Gains) (at n m f : ℕ) (xs es cs o : List Float) → f < m → at + n + n + n + m ≤ length xs → m ≤ length es → f < length cs
-    → o ≡ add_four g at n f xs (take m es) cs
-    → set o f (add binary32
-    (add binary32 (add binary32 (add binary32 (get_or o f nan) (term_at g.a xs es at f)) (term_at g.b xs es (at + n) f)) (term_at g.c xs es (at + n + n) f))
-    (term_at g.d xs es (at + n + n + n) f))
-    ≡ add_four g at n (f + 1) xs (take m es) cs
-unfolding add_four
-four-more g at n m f xs es cs o hf hx he h p =
-    let ls = take m es in
-    let sa = add_side g.a (row at f xs) ls cs in
-    let sb = add_side g.b (row (at + n) f xs) ls sa in
-    let sc = add_side g.c (row (at + n + n) f xs) ls sb in
-    let la : f < length sa = rw (length-add g.a (row at f xs) ls cs) h in
-    let lb : f < length sb = rw (length-add g.b (row (at + n) f xs) ls sa) la in
-    let lc : f < length sc = rw (length-add g.c (row (at + n + n) f xs) ls sb) lb in
-    let x = get_or cs f nan in
-    let xa = add binary32 x (term_at g.a xs es at f) in
-    let xb = add binary32 xa (term_at g.b xs es (at + n) f) in
-    let xc = add binary32 xb (term_at g.c xs es (at + n + n) f) in
-    let a : add_side g.a (row at (f + 1) xs) ls cs ≡ set sa f xa =
-    rw (set-get_or cs f nan) at (row_next xs es cs at m f hf (omega arith) he g.a x h) in
-    let b : add_side g.b (row (at + n) (f + 1) xs) ls (set sa f xa) ≡ set sb f xb = row_next xs es sa (at + n) m f hf (omega arith) he g.b xa la in
-    let c : add_side g.c (row (at + n + n) (f + 1) xs) ls (set sb f xb) ≡ set sc f xc = row_next xs es sb (at + n + n) m f hf (omega arith) he g.c xb lb in
-    let d = row_next xs es sc (at + n + n + n) m f hf (omega arith) he g.d xc lc in
-    let same : get_or (add_side g.d (row (at + n + n + n) f xs) ls sc) f nan ≡ x =
-    side-beyond g.d (drop (at + n + n + n) xs) ls sc f nan
-    ∙ side-beyond g.c (drop (at + n + n) xs) ls sb f nan
-    ∙ side-beyond g.b (drop (at + n) xs) ls sa f nan
-    ∙ side-beyond g.a (drop at xs) ls cs f nan in
-    rw (p, same, a, b, c) (sym d)
+  -- from the next copy's samples on
+  framed-drop : (at : ℕ) (e s : Float) (xs : List Float) (cs : List UnisonCopy) → framed side n at e (drop n xs) cs s ≡ framed side n (at + n) e xs cs s
+  unfolding framed
+  framed-drop at e s xs [] = refl
+  framed-drop at e s xs (c ∷ cs) =
+      let k : n + at ≡ at + n = omega arith in
+      rw (get_or-drop n xs at nan, k) (framed-drop (at + n) e _ xs cs)
+
+module _ (side : UnisonCopy → Float) (n a : ℕ) (es : List Float) where
+  abbrev Summed : ℕ → List Float → List UnisonCopy → List Float → List Float
+  Summed f xs cs sums = (fold (part_copy side n a f es) (mixing xs sums) cs).sums
+
+  pub frames_none : (xs sums : List Float) (cs : List UnisonCopy) → sums ≡ Summed 0 xs cs sums
+  unfolding part_copy
+  frames_none xs sums [] = refl
+  frames_none xs sums (c ∷ cs) = frames_none (drop n xs) sums cs
+
+  frame-beyond : (f : ℕ) (xs sums : List Float) (cs : List UnisonCopy) → get_or (Summed f xs cs sums) f nan ≡ get_or sums f nan
+  unfolding part_copy
+  frame-beyond f xs sums [] = refl
+  frame-beyond f xs sums (c ∷ cs) =
+      frame-beyond f (drop n xs) (add_side (side c) (row a f xs) es sums) cs ∙ side-beyond (side c) (drop a xs) es sums f nan
+
+  -- over sums in which x stands for the frame
+  frame-next : (f : ℕ) (x : Float) (xs sums : List Float) (cs : List UnisonCopy) → f < length es → a + f < n → n * length cs ≤ length xs → f < length sums
+      → Summed (f + 1) xs cs (set sums f x) ≡ set (Summed f xs cs sums) f (framed side n (a + f) (get_or es f nan) xs cs x)
+  unfolding part_copy framed
+  frame-next f x xs sums [] hf ha hx hs = refl
+  frame-next f x xs sums (c ∷ cs) hf ha hx hs =
+      let m = mul-suc n (length cs) in
+      let e = get_or es f nan in
+      let y = add binary32 x (mul binary32 (mul binary32 (get_or xs (a + f) nan) e) (side c)) in
+      let old = add_side (side c) (row a f xs) es sums in
+      let here = row_next (side c) xs es sums a f x (omega (arith, m)) hf hs in
+      let room : n * length cs ≤ length (drop n xs) = simp length-drop (omega (arith, m)) in
+      let later = frame-next f y (drop n xs) old cs hf ha room (rw (length-add (side c) (row a f xs) es sums) hs) in
+      ap (Summed (f + 1) (drop n xs) cs) here ∙ later ∙ ap (set (Summed f (drop n xs) cs old) f) (framed-drop side n (a + f) e y xs cs)
+
+  -- the frame more that the code adds
+  pub frame_more : (f : ℕ) (xs sums o : List Float) (cs : List UnisonCopy) → f < length es → a + f < n → n * length cs ≤ length xs → f < length sums
+      → o ≡ Summed f xs cs sums → set o f (framed side n (a + f) (get_or es f nan) xs cs (get_or o f nan)) ≡ Summed (f + 1) xs cs sums
+  frame_more f xs sums o cs hf ha hx hs p =
+      rw (p, frame-beyond f xs sums cs) (sym (rw (set-get_or sums f nan) at (frame-next f (get_or sums f nan) xs sums cs hf ha hx hs)))
 
 -- ---- the copies of a voice
 
--- copy j has its n samples behind those of the copies before it
-pub row_fits : (n j k : ℕ) → j < k → n * j + n ≤ n * k
-row_fits n j k h = rw (← mul-suc) (mul-le-mul_left n h)
+module _ (side : UnisonCopy → Float) (n a m : ℕ) (es : List Float) where
+  fold-both : (z : Mixing) (xs ys : List UnisonCopy) → fold (part_copy side n a m es) z (xs ++ ys) ≡ fold (part_copy side n a m es) (fold (part_copy side n a m es) z xs) ys
+  fold-both z [] ys = refl
+  fold-both z (x ∷ xs) ys = fold-both (part_copy side n a m es z x) xs ys
 
-pub row-after : (n j : ℕ) → n * (j + 1) ≡ n * j + n
-row-after n j = rw (add-one, mul-suc)
-
-pub four-fit : (n j k : ℕ) → 4 ≤ k - j → j < k → n * j + n + n + n + n ≤ n * k
-four-fit n j k h g =
-    let l : j + 4 ≤ k = omega arith in
-    let m = rw (mul-add n j 4) at (mul-le-mul_left n l) in
-    omega arith
-
-pub four-after : (n j : ℕ) → n * (j + 4) ≡ n * j + n + n + n + n
-four-after n j = rw (mul-add n j 4) (omega arith)
-
-module _ (side : UnisonCopy → Float) (n a m : ℕ) (xs es : List Float) (z : Mixing) (us : List UnisonCopy) where
-  -- j copies are done, and the samples from q on are not used yet
-  abbrev pub Copied : ℕ → ℕ → List Float → Type 0
-  Copied q j o = mixing (drop q xs) o ≡ fold (part_copy side n a m es) z (take j us)
-
-  pub copy-one : (q j : ℕ) (o w : List Float) → j < length us → w ≡ add_side (side (get_or us j no_copy)) (row (q + a) m xs) es o → Copied q j o → Copied (q + n) (j + 1) w
+  used : (z : Mixing) (cs : List UnisonCopy) → (fold (part_copy side n a m es) z cs).samples ≡ drop (n * length cs) z.samples
   unfolding part_copy
-  copy-one q j o w h e s = rw (fold_more (part_copy side n a m es) z us j no_copy h, ← s, e, drop-drop n q xs, drop-drop a q xs)
+  used z [] = rw mul-zero
+  used z (c ∷ cs) =
+      let e : n + n * length cs ≡ n * suc (length cs) = rw mul-suc (omega arith) in
+      used (part_copy side n a m es z c) cs ∙ drop-drop (n * length cs) n z.samples ∙ rw e
 
-  pub copy-four : (q j : ℕ) (o w : List Float) → j + 3 < length us
-      → w ≡ add_four (record { a = side (get_or us j no_copy); b = side (get_or us (j + 1) no_copy); c = side (get_or us (j + 2) no_copy); d = side (get_or us (j + 3) no_copy) }) (q + a) n m xs es o
-      → Copied q j o → Copied (q + n + n + n + n) (j + 4) w
-  unfolding add_four
-  copy-four q j o w h e s =
-      let b : q + a + n ≡ q + n + a = omega arith in
-      let c : q + a + n + n ≡ q + n + n + a = omega arith in
-      let d : q + a + n + n + n ≡ q + n + n + n + a = omega arith in
-      let j2 : j + 2 ≡ j + 1 + 1 = omega arith in
-      let j3 : j + 3 ≡ j + 1 + 1 + 1 = omega arith in
-      let j4 : j + 4 ≡ j + 1 + 1 + 1 + 1 = omega arith in
-      let e' = rw (d, c, b, j2, j3) at e in
-      rw j4
-      (copy-one (q + n + n + n) (j + 1 + 1 + 1) _ w (omega arith) e'
-      (copy-one (q + n + n) (j + 1 + 1) _ _ (omega arith) refl (copy-one (q + n) (j + 1) _ _ (omega arith) refl (copy-one q j o _ (omega arith) refl s))))
+  -- the first copies are done, and the samples behind theirs are left
+  pub copies-turn : (k : ℕ) (xs o w ys : List Float) (part rest cs : List UnisonCopy) → cs ≡ part ++ rest → length part ≡ k → ys ≡ drop (n * k) xs
+      → w ≡ (fold (part_copy side n a m es) (mixing xs o) part).sums
+      → (fold (part_copy side n a m es) (mixing ys w) rest).sums ≡ (fold (part_copy side n a m es) (mixing xs o) cs).sums
+  copies-turn k xs o w ys part rest cs e l q p =
+      let s : ys ≡ (fold (part_copy side n a m es) (mixing xs o) part).samples = q ∙ sym (rw l at (used (mixing xs o) part)) in
+      rw (e, fold-both (mixing xs o) part rest, s, p)
+
+-- the next copy's place
+pub place-after : (n i : ℕ) → n * (i + 1) ≡ n * i + n
+place-after n i = rw (add-one, mul-suc)
+
+-- the code takes the copies that count
+pub copies-shown : (v : Voice) (k : ℕ) → k ≡ length (shown v).copies → take k v.copies ≡ (shown v).copies
+unfolding shown
+copies-shown v k h = rw (h, length-take) (take_min v.copy_count _ v.copies refl)
+
+-- n samples for each of k copies more leave as many for the others
+pub samples-left : (n k l : ℕ) (xs : List Float) → k ≤ l → n * l ≤ length xs → n * (l - k) ≤ length (drop (n * k) xs)
+samples-left n k l xs h e =
+    let s : k + (l - k) ≡ l = omega arith in
+    let m = rw s at (mul-add n k (l - k)) in
+    simp length-drop (omega (arith, m))
 
 -- ---- the output
 

@@ -3,12 +3,11 @@
 
 #![tactic(auto)]
 
-ghost use Rattle.std.specs.Prelude.{◌≡◌, ◌+◌, ◌*◌, ◌≤◌, leb, length, take, drop};
+ghost use Rattle.std.specs.Prelude.{◌≡◌, ◌+◌, ◌*◌, ◌≤◌, ◌<◌, leb, length, take};
 ghost use Rattle.lists.specs.Prefix.{fold};
 ghost use Rattle.model.specs.Voices.{aged};
-ghost use Rattle.model.specs.Mix.{add_side, mixing, interleave, on_left, on_right};
-ghost use Rattle.voice.specs.View.{shown};
-ghost use Rattle.render.specs.Parts.{row, part_copy, gains, add_four, BothSides};
+ghost use Rattle.model.specs.Mix.{mixing, interleave, on_left, on_right};
+ghost use Rattle.render.specs.Parts.{part_copy, framed, PartFits, BothSides};
 ghost use Rattle.render.specs.Mixes.{Fits, AddedAs, added_voice, with_env, FitsOut, PutAs, goes_on};
 
 use envelope::EnvGen;
@@ -16,126 +15,94 @@ use lists::{fills, smaller};
 use stream::UnisonCopy;
 use voice::Voice;
 
-// One copy goes into a part, on both sides.
-fn add_one(
-    samples: &[f32],
-    at: usize,
-    env: &[f32; 64],
-    m: usize,
-    l: f32,
-    r: f32,
-    left: &mut [f32],
-    right: &mut [f32],
-)
-    requires { (at + m ≤ length samples.now) × (m ≤ 64) × (length env.now ≡ 64) × (m ≤ length left.old) × (m ≤ length right.old) }
-    ensures { BothSides (λ g. add_side g (row at m samples.now) (take m env.now)) l r left.old right.old left.new right.new }
-{
-    let mut f: usize = 0;
-    while f < m {
-        let x = samples[at + f];
-        let e = env[f];
-        left[f] = left[f] + x * e * l;
-        right[f] = right[f] + x * e * r;
-        f += 1;
-    }
+// The sums of one frame.
+#[derive(Clone, Copy)]
+struct Sums {
+    left: f32,
+    right: f32,
 }
 
-// Four copies go into a part in one pass; each has n samples.
-fn add_four(
+// One frame of the copies: its samples stand n places apart, the first at `at`.
+fn add_frame<const K: usize>(
+    copies: &[UnisonCopy; K],
     samples: &[f32],
-    at: usize,
     n: usize,
-    env: &[f32; 64],
-    m: usize,
-    la: f32,
-    lb: f32,
-    lc: f32,
-    ld: f32,
-    ra: f32,
-    rb: f32,
-    rc: f32,
-    rd: f32,
-    left: &mut [f32],
-    right: &mut [f32],
-)
-    requires { (at + n + n + n + m ≤ length samples.now) × (m ≤ 64) × (length env.now ≡ 64) × (m ≤ length left.old) × (m ≤ length right.old) }
-    ensures { BothSides (λ g. add_four g at n m samples.now (take m env.now)) (gains la lb lc ld) (gains ra rb rc rd) left.old right.old left.new right.new }
+    at: usize,
+    level: f32,
+    sums: Sums,
+) -> Sums
+    requires { (n * K ≤ length samples.now) × (at < n) }
+    ensures left { result.left ≡ framed on_left n at level samples.now copies.now sums.left }
+    ensures right { result.right ≡ framed on_right n at level samples.now copies.now sums.right }
 {
-    let b = at + n;
-    let c = b + n;
-    let d = c + n;
-    let mut f: usize = 0;
-    while f < m {
-        let e = env[f];
-        let xa = samples[at + f] * e;
-        let xb = samples[b + f] * e;
-        let xc = samples[c + f] * e;
-        let xd = samples[d + f] * e;
-        left[f] = left[f] + xa * la + xb * lb + xc * lc + xd * ld;
-        right[f] = right[f] + xa * ra + xb * rb + xc * rc + xd * rd;
-        f += 1;
+    let mut left = sums.left;
+    let mut right = sums.right;
+    let mut place = at;
+    for copy in copies {
+        let x = samples[place] * level;
+        left = left + x * copy.l;
+        right = right + x * copy.r;
+        place += n;
     }
+    Sums { left, right }
 }
 
-// The same by the gains of the copies.
-fn add_four_copies(
+// Copies go into a part in one pass, on both sides; each has n samples, and the part begins at frame a. By value: behind
+// a reference each frame reads the gains anew, which costs a tenth of the pass. The sums by index: of what goes through
+// a zip of `iter_mut` a proof knows nothing.
+fn add_together<const K: usize>(
+    copies: [UnisonCopy; K],
     samples: &[f32],
-    at: usize,
     n: usize,
-    env: &[f32; 64],
-    m: usize,
-    a: UnisonCopy,
-    b: UnisonCopy,
-    c: UnisonCopy,
-    d: UnisonCopy,
+    a: usize,
+    levels: &[f32],
     left: &mut [f32],
     right: &mut [f32],
 )
-    requires { (at + n + n + n + m ≤ length samples.now) × (m ≤ 64) × (length env.now ≡ 64) × (m ≤ length left.old) × (m ≤ length right.old) }
-    ensures { BothSides (λ side. add_four (gains (side a) (side b) (side c) (side d)) at n m samples.now (take m env.now)) on_left on_right left.old right.old left.new right.new }
+    requires { PartFits n K a samples.now levels.now left.old right.old }
+    ensures { BothSides (λ side sums. (fold (part_copy side n a (length levels.now) levels.now) (mixing samples.now sums) copies.entry).sums) on_left on_right left.old right.old left.new right.new }
 {
-    add_four(
-        samples, at, n, env, m, a.l, b.l, c.l, d.l, a.r, b.r, c.r, d.r, left, right,
-    );
+    for (f, level) in levels.iter().enumerate() {
+        let sums = Sums {
+            left: left[f],
+            right: right[f],
+        };
+        let more = add_frame(&copies, samples, n, a + f, *level, sums);
+        left[f] = more.left;
+        right[f] = more.right;
+    }
 }
 
 // The copies of one voice go into a part: four at a time while there are four.
 fn add_copies(
-    v: Voice,
+    copies: &[UnisonCopy],
     samples: &[f32],
-    p: usize,
     n: usize,
     a: usize,
-    env: &[f32; 64],
-    m: usize,
+    levels: &[f32],
     left: &mut [f32],
     right: &mut [f32],
 )
-    requires { (p + n * length (shown v).copies ≤ length samples.now) × (a + m ≤ n) × (m ≤ 64) × (length env.now ≡ 64) × (m ≤ length left.old) × (m ≤ length right.old) }
-    ensures { BothSides (λ side sums. (fold (part_copy side n a m (take m env.now)) (mixing (drop p samples.now) sums) (shown v).copies).sums) on_left on_right left.old right.old left.new right.new }
+    requires { PartFits n (length copies.now) a samples.now levels.now left.old right.old }
+    ensures { BothSides (λ side sums. (fold (part_copy side n a (length levels.now) levels.now) (mixing samples.now sums) copies.now).sums) on_left on_right left.old right.old left.new right.new }
 {
-    let k = v.copies_shown();
-    let mut q = p;
-    let mut j: usize = 0;
-    while j < k {
-        if k - j >= 4 {
-            let ua = v.copies[j];
-            let ub = v.copies[j + 1];
-            let uc = v.copies[j + 2];
-            let ud = v.copies[j + 3];
-            add_four_copies(samples, q + a, n, env, m, ua, ub, uc, ud, left, right);
-            q = q + n + n + n + n;
-            j += 4;
+    let mut copies = copies;
+    let mut samples = samples;
+    while !copies.is_empty() {
+        if let Some(four) = copies.first_chunk::<4>() {
+            add_together(*four, samples, n, a, levels, left, right);
+            copies = &copies[4..];
+            samples = &samples[n * 4..];
         } else {
-            let u = v.copies[j];
-            add_one(samples, q + a, env, m, u.l, u.r, left, right);
-            q += n;
-            j += 1;
+            add_together([copies[0]], samples, n, a, levels, left, right);
+            copies = &copies[1..];
+            samples = &samples[n..];
         }
     }
 }
 
-// A voice goes into the sums part by part, and the envelope of the next part is the one behind this.
+// A voice goes into the sums part by part, and the envelope of the next part is the one behind this. The parts by
+// index: of what goes through `chunks_mut` a proof knows nothing.
 fn add_parts(
     v: Voice,
     n: usize,
@@ -148,21 +115,19 @@ fn add_parts(
     requires { Fits v n p samples.now left.old right.old }
     ensures { (result ≡ aged n v.env) × BothSides (λ side. added_voice side v n trem samples.now p) on_left on_right left.old right.old left.new right.new }
 {
+    let k = v.copies_shown();
     let mut e = v.env;
     let mut a: usize = 0;
     while a < n {
         let m = smaller(n - a, 64);
         let end = a + m;
         let filled = levels::fill(e, v.gain, trem, m);
-        let env = filled.levels;
         add_copies(
-            v,
-            samples,
-            p,
+            &v.copies[..k],
+            &samples[p..],
             n,
             a,
-            &env,
-            m,
+            &filled.levels[..m],
             &mut left[a..end],
             &mut right[a..end],
         );
@@ -220,18 +185,14 @@ pub fn with_env(mut v: Voice, env: EnvGen) -> Voice
     v
 }
 
-// m sums of each side, left before right.
+// m sums of each side, left before right. By index: of what goes through `chunks_exact_mut` a proof knows nothing.
 fn put_pairs(left: &[f32], right: &[f32], m: usize, out: &mut [f32])
     requires { FitsOut m left.now right.now out.old }
     ensures { out.new ≡ interleave (take m left.now) (take m right.now) }
 {
-    let mut p: usize = 0;
-    let mut f: usize = 0;
-    while f < m {
-        out[p] = left[f];
-        out[p + 1] = right[f];
-        p += 2;
-        f += 1;
+    for f in 0..m {
+        out[2 * f] = left[f];
+        out[2 * f + 1] = right[f];
     }
 }
 

@@ -1,122 +1,89 @@
-use mathlib.Core.Path.{◌≡◌, refl, ap}
-use Prim.Native.Nat.{◌*◌, ℕ, ◌≤◌, ◌+◌}
+use mathlib.Core.Path.{◌≡◌, refl, sym, ◌∙◌}
+use mathlib.Core.List.{List, [], ◌∷◌, ◌++◌}
+use mathlib.Core.Bool.{Bool, false}
+use Prim.Native.Nat.{ℕ, zero, suc, ◌-◌, ◌*◌, ◌≤◌}
+use native.Mathlib.Nat.{mul-le-mul_left}
 use native.Mathlib.Omega.{arith}
-use borrow.Author.Rules.{rules}
-use lib.ListN.{length-take, length, take, drop}
-use Rattle.lists.specs.Prefix.{take_min}
-use Rattle.model.specs.Mix.{Mixing, mixing, on_left, on_right}
-use Rattle.voice.specs.declared.Voice.{Voice}
-use Rattle.voice.specs.View.{shown}
-use Rattle.voice.proofs.Sizes.{copies-long}
-use Rattle.render.proofs.Turns.{copy-one, copy-four, row_fits, row-after, four-fit, four-after}
+use lib.ListN.{length, take, drop, get_or, length-take, length-drop, take-append-drop}
+use lib.Seq.{take_all}
+use lib.Dec.{eqb}
+use Rattle.lists.specs.Choose.{clash}
+use Rattle.lists.specs.Prefix.{drop_more}
+use Rattle.stream.specs.declared.UnisonCopy.{UnisonCopy}
+use Rattle.model.specs.Mix.{on_left, on_right}
+use Rattle.voice.specs.View.{no_copy}
+use Rattle.render.proofs.Turns.{copies-turn, samples-left}
 use Rattle.render.proofs.add_copies.Goals as goal
 
-all-copies : (v : Voice) (j k : ℕ) → j ≡ k → k ≡ length (shown v).copies → take j v.copies ≡ (shown v).copies
-unfolding shown
-all-copies v j k e h = rw (e, h, length-take) (take_min v.copy_count _ v.copies refl)
+-- a slice that is not empty
+some-left : (b : Bool) (k : ℕ) → b ≡ eqb k 0 → b ≡ false → 1 ≤ k
+some-left b zero e f = absurd (clash b e f)
+some-left b (suc k) e f = omega arith
 
-pub overflow_add-q : goal.overflow_add-q
-overflow_add-q c =
-    let all : c.args.p + c.args.n * c.copies_shown-k.result ≤ length c.args.samples.now = rw c.copies_shown-k.ensures.1 c.requires.0 in
-    let fit = four-fit c.args.n c.loop-j.j c.copies_shown-k.result c.if-k-j-ge4.true c.loop-j-test.true in
-    omega (arith, all, fit, c.loop-j.invariant.1, c.well_formed.1.0.0, c.requires)
+pub overflow_mul-samples : goal.overflow_mul-samples
+overflow_mul-samples c =
+    let four = c.in-Some.ensures.cases.enough in
+    omega (arith, mul-le-mul_left c.args.n four, c.loop-copies.invariant, c.well_formed.1.0.0)
 
-pub add_four_copies-requires : goal.add_four_copies-requires
-add_four_copies-requires c =
-    let all : c.args.p + c.args.n * c.copies_shown-k.result ≤ length c.args.samples.now = rw c.copies_shown-k.ensures.1 c.requires.0 in
-    let fit = four-fit c.args.n c.loop-j.j c.copies_shown-k.result c.if-k-j-ge4.true c.loop-j-test.true in
-    omega (arith, all, fit, c.loop-j.invariant.1, c.well_formed.1.0.0, c.requires)
+pub offset_bounds-samples-n : goal.offset_bounds-samples-n
+offset_bounds-samples-n c =
+    let four = c.in-Some.ensures.cases.enough in
+    omega (arith, mul-le-mul_left c.args.n four, c.loop-copies.invariant, c.well_formed.1.0.0)
 
-pub overflow_add-q-then-k-j-ge4 : goal.overflow_add-q-then-k-j-ge4
-overflow_add-q-then-k-j-ge4 c =
-    let all : c.args.p + c.args.n * c.copies_shown-k.result ≤ length c.args.samples.now = rw c.copies_shown-k.ensures.1 c.requires.0 in
-    let fit = four-fit c.args.n c.loop-j.j c.copies_shown-k.result c.if-k-j-ge4.true c.loop-j-test.true in
-    omega (arith, all, fit, c.loop-j.invariant.1, c.well_formed.1.0.0, c.requires)
-
-pub overflow_add-q-then-k-j-ge4-2 : goal.overflow_add-q-then-k-j-ge4-2
-overflow_add-q-then-k-j-ge4-2 c =
-    let all : c.args.p + c.args.n * c.copies_shown-k.result ≤ length c.args.samples.now = rw c.copies_shown-k.ensures.1 c.requires.0 in
-    let fit = four-fit c.args.n c.loop-j.j c.copies_shown-k.result c.if-k-j-ge4.true c.loop-j-test.true in
-    omega (arith, all, fit, c.loop-j.invariant.1, c.well_formed.1.0.0, c.requires)
-
-pub overflow_add-q-then-k-j-ge4-3 : goal.overflow_add-q-then-k-j-ge4-3
-overflow_add-q-then-k-j-ge4-3 c =
-    let all : c.args.p + c.args.n * c.copies_shown-k.result ≤ length c.args.samples.now = rw c.copies_shown-k.ensures.1 c.requires.0 in
-    let fit = four-fit c.args.n c.loop-j.j c.copies_shown-k.result c.if-k-j-ge4.true c.loop-j-test.true in
-    omega (arith, all, fit, c.loop-j.invariant.1, c.well_formed.1.0.0, c.requires)
-
-pub overflow_add-q-then-k-j-ge4-4 : goal.overflow_add-q-then-k-j-ge4-4
-overflow_add-q-then-k-j-ge4-4 c =
-    let all : c.args.p + c.args.n * c.copies_shown-k.result ≤ length c.args.samples.now = rw c.copies_shown-k.ensures.1 c.requires.0 in
-    let fit = four-fit c.args.n c.loop-j.j c.copies_shown-k.result c.if-k-j-ge4.true c.loop-j-test.true in
-    omega (arith, all, fit, c.loop-j.invariant.1, c.well_formed.1.0.0, c.requires)
-
-pub overflow_add-q-else-k-j-ge4 : goal.overflow_add-q-else-k-j-ge4
-overflow_add-q-else-k-j-ge4 c =
-    let all : c.args.p + c.args.n * c.copies_shown-k.result ≤ length c.args.samples.now = rw c.copies_shown-k.ensures.1 c.requires.0 in
-    let fit = row_fits c.args.n c.loop-j.j c.copies_shown-k.result c.loop-j-test.true in
-    omega (arith, all, fit, c.loop-j.invariant.1, c.well_formed.1.0.0, c.requires)
-
-pub add_one-requires : goal.add_one-requires
-add_one-requires c =
-    let all : c.args.p + c.args.n * c.copies_shown-k.result ≤ length c.args.samples.now = rw c.copies_shown-k.ensures.1 c.requires.0 in
-    let fit = row_fits c.args.n c.loop-j.j c.copies_shown-k.result c.loop-j-test.true in
-    omega (arith, all, fit, c.loop-j.invariant.1, c.well_formed.1.0.0, c.requires)
-
-pub overflow_add-q-else-k-j-ge4-2 : goal.overflow_add-q-else-k-j-ge4-2
-overflow_add-q-else-k-j-ge4-2 c =
-    let all : c.args.p + c.args.n * c.copies_shown-k.result ≤ length c.args.samples.now = rw c.copies_shown-k.ensures.1 c.requires.0 in
-    let fit = row_fits c.args.n c.loop-j.j c.copies_shown-k.result c.loop-j-test.true in
-    omega (arith, all, fit, c.loop-j.invariant.1, c.well_formed.1.0.0, c.requires)
-
-pub loop-j-init : goal.loop-j-init
-loop-j-init c = (search rules, omega arith, refl, refl, refl, refl)
-
-pub loop-j-preserved-then-k-j-ge4 : goal.loop-j-preserved-then-k-j-ge4
-loop-j-preserved-then-k-j-ge4 c =
+pub loop-copies-preserved-in-Some : goal.loop-copies-preserved-in-Some
+loop-copies-preserved-in-Some c =
     let x = c.args in
-    let i = c.loop-j.invariant in
-    let es = take x.m x.env.now in
-    let long = copies-long x.v c.well_formed.0 in
-    let k = c.copies_shown-k.ensures.0 in
-    let call = c.add_four_copies in
-    let e = call.ensures in (
-      omega arith,
-      omega (arith, four-after x.n c.loop-j.j, i.1),
-      omega (arith, call.auto, i.2),
-      omega (arith, call.auto, i.3),
-      copy-four on_left x.n x.a x.m x.samples.now es (mixing (drop x.p x.samples.now) x.left.now)
-          x.v.copies c.loop-j.q c.loop-j.j c.loop-j.left _ (omega (arith, long, k)) e.on_left i.4,
-      copy-four on_right x.n x.a x.m x.samples.now es (mixing (drop x.p x.samples.now) x.right.now)
-          x.v.copies c.loop-j.q c.loop-j.j c.loop-j.right _ (omega (arith, long, k)) e.on_right i.5,
+    let l = c.loop-copies in
+    let i = l.invariant in
+    let found = c.in-Some.ensures.cases in
+    let four = found.enough in
+    let fit = mul-le-mul_left x.n four in
+    let rest : take (length l.copies.now - 4) (drop 4 l.copies.now) ≡ drop 4 l.copies.now = take_all _ (drop 4 l.copies.now) (simp length-drop (omega arith)) in
+    let behind : take (length l.samples.now - x.n * 4) (drop (x.n * 4) l.samples.now) ≡ drop (x.n * 4) l.samples.now =
+    take_all _ (drop (x.n * 4) l.samples.now) (simp length-drop (omega arith)) in
+    let many : length (take 4 l.copies.now) ≡ 4 = simp length-take (omega arith) in
+    let parts = sym (take-append-drop 4 l.copies.now) in
+    let e = rw found.same at c.add_together.ensures in
+    rw (rest, behind) (
+      rw (length-drop 4 l.copies.now) (samples-left x.n 4 (length l.copies.now) l.samples.now four i.0),
+      simp length-drop (omega (arith, i.1)),
+      copies-turn on_left x.n x.a _ x.levels.now 4 l.samples.now l.left _ _ (take 4 l.copies.now) (drop 4 l.copies.now) l.copies.now parts many refl e.on_left ∙ i.2,
+      copies-turn on_right x.n x.a _ x.levels.now 4 l.samples.now l.right _ _ (take 4 l.copies.now) (drop 4 l.copies.now) l.copies.now parts many refl e.on_right ∙ i.3,
     )
 
-pub loop-j-preserved : goal.loop-j-preserved
-loop-j-preserved c =
-    let x = c.args in
-    let i = c.loop-j.invariant in
-    let es = take x.m x.env.now in
-    let long = copies-long x.v c.well_formed.0 in
-    let k = c.copies_shown-k.ensures.0 in
-    let call = c.add_one in
-    let e = call.ensures in (
-      omega arith,
-      omega (arith, row-after x.n c.loop-j.j, i.1),
-      omega (arith, call.auto, i.2),
-      omega (arith, call.auto, i.3),
-      copy-one on_left x.n x.a x.m x.samples.now es (mixing (drop x.p x.samples.now) x.left.now)
-          x.v.copies c.loop-j.q c.loop-j.j c.loop-j.left _ (omega (arith, long, k)) e.on_left i.4,
-      copy-one on_right x.n x.a x.m x.samples.now es (mixing (drop x.p x.samples.now) x.right.now)
-          x.v.copies c.loop-j.q c.loop-j.j c.loop-j.right _ (omega (arith, long, k)) e.on_right i.5,
-    )
+pub offset_bounds-samples-n-in_default : goal.offset_bounds-samples-n-in_default
+offset_bounds-samples-n-in_default c =
+    let one : 1 ≤ length c.loop-copies.copies.now = some-left _ _ c.is_empty.ensures c.loop-copies-test.true in
+    omega (arith, mul-le-mul_left c.args.n one, c.loop-copies.invariant, c.well_formed.1.0.0)
 
-pub returns : goal.returns
-returns c =
-    let v = c.args.v in
-    let i = c.loop-j.invariant in
-    let k = c.copies_shown-k in
-    let all : take c.loop-j.j v.copies ≡ (shown v).copies = all-copies v c.loop-j.j k.result (omega arith) k.ensures.1 in
-    record {
-      on_left = rw all at (ap (λ (z : Mixing). z.sums) i.4);
-      on_right = rw all at (ap (λ (z : Mixing). z.sums) i.5);
-    }
+pub slice_bounds-samples-count-in_default : goal.slice_bounds-samples-count-in_default
+slice_bounds-samples-count-in_default c =
+    let one : 1 ≤ length c.loop-copies.copies.now = some-left _ _ c.is_empty.ensures c.loop-copies-test.true in
+    omega (arith, mul-le-mul_left c.args.n one, c.loop-copies.invariant, c.well_formed.1.0.0)
+
+pub slice_bounds-samples-start-in_default : goal.slice_bounds-samples-start-in_default
+slice_bounds-samples-start-in_default c =
+    let one : 1 ≤ length c.loop-copies.copies.now = some-left _ _ c.is_empty.ensures c.loop-copies-test.true in
+    omega (arith, mul-le-mul_left c.args.n one, c.loop-copies.invariant, c.well_formed.1.0.0)
+
+pub loop-copies-preserved : goal.loop-copies-preserved
+loop-copies-preserved c =
+    let x = c.args in
+    let l = c.loop-copies in
+    let i = l.invariant in
+    let one : 1 ≤ length l.copies.now = some-left _ _ c.is_empty.ensures c.loop-copies-test.true in
+    let fit = mul-le-mul_left x.n one in
+    let k : x.n * 1 ≡ x.n = omega arith in
+    let first : List UnisonCopy = get_or l.copies.now 0 no_copy ∷ [] in
+    let rest : take (length l.copies.now - 1) (drop 1 l.copies.now) ≡ drop 1 l.copies.now = take_all _ (drop 1 l.copies.now) (simp length-drop (omega arith)) in
+    let behind : take (length l.samples.now - x.n) (drop x.n l.samples.now) ≡ drop x.n l.samples.now =
+    take_all _ (drop x.n l.samples.now) (simp length-drop (omega arith)) in
+    let parts : l.copies.now ≡ first ++ drop 1 l.copies.now = drop_more l.copies.now 0 no_copy (omega arith) in
+    let ys : drop x.n l.samples.now ≡ drop (x.n * 1) l.samples.now = rw k in
+    let e = c.add_together-in_default.ensures in
+    rw (rest, behind) (
+      rw (length-drop 1 l.copies.now) (rw k at (samples-left x.n 1 (length l.copies.now) l.samples.now one i.0)),
+      simp length-drop (omega (arith, i.1)),
+      copies-turn on_left x.n x.a _ x.levels.now 1 l.samples.now l.left _ _ first (drop 1 l.copies.now) l.copies.now parts refl ys e.on_left ∙ i.2,
+      copies-turn on_right x.n x.a _ x.levels.now 1 l.samples.now l.right _ _ first (drop 1 l.copies.now) l.copies.now parts refl ys e.on_right ∙ i.3,
+    )

@@ -1,18 +1,19 @@
 use mathlib.Core.Path.{◌≡◌}
-use Prim.Native.Nat.{◌*◌, ◌≤◌, ◌-◌, ◌+◌}
-use lib.ListN.{length, take, drop}
+use Prim.Native.Nat.{◌*◌, ◌≤◌}
+use lib.ListN.{length}
+use Rattle.lists.specs.Prefix.{fold}
 use Rattle.model.specs.Mix.{mixing, on_left, on_right}
-use Rattle.render.proofs.Turns.{Copied}
+use Rattle.render.specs.Parts.{part_copy}
 use Rattle.render.proofs.add_copies.Given as goal
 
-abbrev pub invariant-loop-j : goal.invariant-loop-j
-invariant-loop-j l =
-    (l.j ≤ l.k)
-    × (l.q ≡ l.p + l.n * l.j)
-    × (length l.left ≡ length l.initial.left)
-    × (length l.right ≡ length l.initial.right)
-    × Copied on_left l.n l.a l.m l.samples (take l.m l.env) (mixing (drop l.p l.samples) l.initial.left) l.v.copies l.q l.j l.left
-    × Copied on_right l.n l.a l.m l.samples (take l.m l.env) (mixing (drop l.p l.samples) l.initial.right) l.v.copies l.q l.j l.right
+abbrev pub invariant-loop-copies : goal.invariant-loop-copies
+invariant-loop-copies l =
+    (l.n * length l.copies ≤ length l.samples)
+    × (length l.samples ≤ length l.fn.samples)
+    × ((fold (part_copy on_left l.n l.a (length l.levels) l.levels) (mixing l.samples l.left) l.copies).sums
+    ≡ (fold (part_copy on_left l.n l.a (length l.levels) l.levels) (mixing l.fn.samples l.initial.left) l.fn.copies).sums)
+    × ((fold (part_copy on_right l.n l.a (length l.levels) l.levels) (mixing l.samples l.right) l.copies).sums
+    ≡ (fold (part_copy on_right l.n l.a (length l.levels) l.levels) (mixing l.fn.samples l.initial.right) l.fn.copies).sums)
 
-abbrev pub decreases-loop-j : goal.decreases-loop-j
-decreases-loop-j l = l.k - l.j
+abbrev pub decreases-loop-copies : goal.decreases-loop-copies
+decreases-loop-copies l = length l.copies

@@ -1,13 +1,15 @@
 use mathlib.Core.Path.{◌≡◌, refl, ap, sym, ◌∙◌}
-use Prim.Native.Nat.{◌+◌, ◌≤◌, min}
+use Prim.Native.Nat.{◌+◌, ◌-◌, ◌≤◌, min}
 use native.Mathlib.Omega.{arith}
 use borrow.Author.Rules.{rules}
-use lib.ListN.{take, drop}
+use lib.ListN.{length, take, drop, length-take, length-drop}
+use lib.Seq.{take_all}
 use Rattle.levels.proofs.Frames.{aged-add}
 use Rattle.model.specs.Voices.{aged}
 use Rattle.model.specs.Mix.{levels, on_left, on_right}
 use Rattle.voice.specs.View.{shown}
 use Rattle.render.proofs.Parts.{added_none, added-room, added_more, added-all}
+use Rattle.render.proofs.Turns.{copies-shown}
 use Rattle.render.proofs.add_parts.Goals as goal
 
 pub loop-a-init : goal.loop-a-init
@@ -16,15 +18,19 @@ loop-a-init c = (search rules, refl, added_none _ _ _ _ _ _, added_none _ _ _ _ 
 
 pub add_copies-requires : goal.add_copies-requires
 add_copies-requires c =
+    let x = c.args in
     let i = c.loop-a.invariant in
-    let fits : c.loop-a.a + c.smaller-m.result ≤ c.args.n = omega arith in (
-      c.requires.inputs,
-      fits,
-      omega arith,
-      c.fill-filled.ensures.size,
-      added-room _ _ _ _ _ _ c.loop-a.a c.smaller-m.result _ fits c.requires.left_sums i.2,
-      added-room _ _ _ _ _ _ c.loop-a.a c.smaller-m.result _ fits c.requires.right_sums i.3,
-    )
+    let fits : c.loop-a.a + c.smaller-m.result ≤ x.n = omega arith in
+    let inputs = c.requires.inputs in
+    let m : length (take c.smaller-m.result c.fill-filled.result.levels) ≤ c.smaller-m.result = simp length-take (omega arith) in
+    let on_left = added-room _ _ _ _ _ _ c.loop-a.a c.smaller-m.result _ fits c.requires.left_sums i.2 in
+    let on_right = added-room _ _ _ _ _ _ c.loop-a.a c.smaller-m.result _ fits c.requires.right_sums i.3 in
+    record {
+      inputs = rw (copies-shown x.v c.copies_shown-k.result c.copies_shown-k.ensures.1) (simp (length-take, length-drop) (omega arith));
+      frames = omega arith;
+      left_sums = omega arith;
+      right_sums = omega arith;
+    }
 
 pub loop-a-preserved : goal.loop-a-preserved
 unfolding shown
@@ -33,6 +39,12 @@ loop-a-preserved c =
     let a = c.loop-a.a in
     let m = c.smaller-m.result in
     let i = c.loop-a.invariant in
+    let k = c.copies_shown-k in
+    let long = c.fill-filled.ensures.size in
+    let inputs = c.requires.inputs in
+    let many : length (take m c.fill-filled.result.levels) ≡ m = simp length-take (omega arith) in
+    let rest : take (length x.samples.now - x.p) (drop x.p x.samples.now) ≡ drop x.p x.samples.now = take_all _ (drop x.p x.samples.now) (simp length-drop (omega arith)) in
+    let shown-copies = copies-shown x.v k.result k.ensures.1 in
     let e = c.add_copies.ensures in
     let all : min m 64 ≡ m = omega arith in
     let fits : a + m ≤ x.n = omega arith in
@@ -41,9 +53,9 @@ loop-a-preserved c =
       fits,
       env,
       added_more on_left x.n x.trem (drop x.p x.samples.now) (shown x.v) x.left.now
-          a m _ c.loop-a.left _ fits c.requires.left_sums es e.on_left (omega (arith, c.add_copies.auto)) i.2,
+          a m _ c.loop-a.left _ fits c.requires.left_sums es (rw (many, rest, shown-copies) at e.on_left) (omega (arith, c.add_copies.auto)) i.2,
       added_more on_right x.n x.trem (drop x.p x.samples.now) (shown x.v) x.right.now
-          a m _ c.loop-a.right _ fits c.requires.right_sums es e.on_right (omega (arith, c.add_copies.auto)) i.3,
+          a m _ c.loop-a.right _ fits c.requires.right_sums es (rw (many, rest, shown-copies) at e.on_right) (omega (arith, c.add_copies.auto)) i.3,
     )
 
 pub returns : goal.returns
