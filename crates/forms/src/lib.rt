@@ -2,12 +2,13 @@
 
 #![tactic(auto)]
 
-ghost use Rattle.std.specs.Prelude.{◌↔◌, IsTrue, length};
+ghost use Rattle.std.specs.Prelude.{◌≡◌, ◌↔◌, IsTrue, length};
 ghost use Rattle.text.specs.Read.{Stands};
 ghost use Rattle.forms.specs.Forms.{FormAs};
+ghost use Rattle.forms.specs.Named.{amp_of, modulation_of, design_of};
 ghost use Rattle.forms.specs.Parts.{LedDecimal, LedWord, ModeAs, AmpAs, ModulationAs, DesignAs, OnAs};
 
-use design::PlayMode;
+use design::{Adsr, InstrumentDesign, Modulation, PlayMode};
 
 // Seconds, seconds, a level, seconds. A float is read as its bits.
 #[derive(Clone, Copy)]
@@ -39,6 +40,52 @@ pub struct DesignForm {
     pub amp: AmpForm,
     pub glide: u32,
     pub modulation: ModulationForm,
+}
+
+impl AmpForm {
+    fn amp(self) -> Adsr
+        ensures { result ≡ amp_of self }
+    {
+        Adsr {
+            a: float32::from_bits(self.a),
+            d: float32::from_bits(self.d),
+            s: float32::from_bits(self.s),
+            r: float32::from_bits(self.r),
+        }
+    }
+}
+
+impl ModulationForm {
+    fn modulation(self) -> Modulation
+        ensures { result ≡ modulation_of self }
+    {
+        Modulation {
+            vibrato_rate: float32::from_bits(self.vibrato_rate),
+            vibrato_cents: float32::from_bits(self.vibrato_cents),
+            tremolo_rate: float32::from_bits(self.tremolo_rate),
+            tremolo_depth: float32::from_bits(self.tremolo_depth),
+            filter_rate: float32::from_bits(self.filter_rate),
+            filter_octaves: float32::from_bits(self.filter_octaves),
+        }
+    }
+}
+
+impl DesignForm {
+    // The design that the line names.
+    pub fn design(self) -> InstrumentDesign
+        ensures { result ≡ design_of self }
+    {
+        InstrumentDesign {
+            sample_rate: self.rate,
+            max_voices: self.max,
+            mode: self.mode,
+            unison: self.unison,
+            unison_width: float32::from_bits(self.width),
+            amp: self.amp.amp(),
+            glide: float32::from_bits(self.glide),
+            modulation: self.modulation.modulation(),
+        }
+    }
 }
 
 #[derive(Clone, Copy)]

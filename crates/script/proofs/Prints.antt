@@ -8,7 +8,7 @@ use mathlib.Core.List.{List, [], ◌∷◌, ◌++◌, append_assoc, flat_map, ma
 use Prim.Native.Nat.{ℕ, zero, suc, ◌+◌, ◌-◌, ◌*◌, ◌/◌, ◌≤◌, ◌<◌, min}
 use native.Mathlib.Omega.{arith}
 use lib.ListN.{length, take, drop, get_or, take-append-drop, length-append, length-take, length-drop}
-use lib.Seq.{take_at, drop_at, drop-drop}
+use lib.Seq.{take_all, take_at, drop_at, drop-drop}
 use lib.Ieee.{to_bits, binary32}
 use Rattle.model.specs.Types as model
 use Rattle.text.specs.Put.{PutAs}
@@ -75,16 +75,15 @@ unfolding flat_map seen
 rows_seen [] = refl
 rows_seen (v ∷ vs) = ap (λ (t : List ℕ). row v ++ t) (rows_seen vs)
 
-rows-view : (vs : List Voice) (n m i : ℕ) → length vs ≡ 64 → m ≡ min n 64 → i ≤ m → m ≤ i
-    → flat_map row (take i vs) ≡ flat_map row_text (voices_of (seen_first n vs))
-rows-view vs n m i s e h g =
-    let j : i ≡ min n 64 = omega arith in
-    ap (λ (z : ℕ). flat_map row (take z vs)) j ∙ ap (flat_map row) (take_min n 64 vs s) ∙ rows_seen (take n vs)
+rows-view : (vs : List Voice) (n m i : ℕ) → length vs ≡ 64 → m ≡ min n 64 → length (take m vs) ≤ i
+    → flat_map row (take i (take m vs)) ≡ flat_map row_text (voices_of (seen_first n vs))
+rows-view vs n m i s e g =
+    ap (flat_map row) (take_all i (take m vs) g ∙ ap (λ (z : ℕ). take z vs) e ∙ take_min n 64 vs s) ∙ rows_seen (take n vs)
 
-pub rows-done : (vs : List Voice) (n m i : ℕ) (old mid new : List ℕ) (k l : ℕ) → length vs ≡ 64 → m ≡ min n 64 → i ≤ m → m ≤ i
-    → Puts voices_word old 0 mid k → Puts (flat_map row (take i vs)) mid k new l → Puts (rows_text (voices_of (seen_first n vs))) old 0 new l
-rows-done vs n m i old mid new k l s e h g p q =
-    rw (← rows-view vs n m i s e h g) (puts_then voices_word (flat_map row (take i vs)) old mid new 0 k l p q)
+pub rows-done : (vs : List Voice) (n m i : ℕ) (old mid new : List ℕ) (k l : ℕ) → length vs ≡ 64 → m ≡ min n 64 → length (take m vs) ≤ i
+    → Puts voices_word old 0 mid k → Puts (flat_map row (take i (take m vs))) mid k new l → Puts (rows_text (voices_of (seen_first n vs))) old 0 new l
+rows-done vs n m i old mid new k l s e g p q =
+    rw (← rows-view vs n m i s e g) (puts_then voices_word (flat_map row (take i (take m vs))) old mid new 0 k l p q)
 
 -- ---- how long the texts are
 
@@ -165,11 +164,12 @@ pub rows-length-more : (vs : List Voice) (i : ℕ) → i < length vs → length 
 rows-length-more vs i h p q =
     rw (flat-more row vs i past_end h) (let l = length-append (flat_map row (take i vs)) (row (get_or vs i past_end)) in omega arith)
 
-pub rows-length-done : (vs : List Voice) (n m i : ℕ) → length vs ≡ 64 → m ≡ min n 64 → i ≤ m → m ≤ i → length (flat_map row (take i vs)) ≤ 57 * i
-    → length (rows_text (voices_of (seen_first n vs))) ≤ 3655
+pub rows-length-done : (vs : List Voice) (n m i : ℕ) → length vs ≡ 64 → m ≡ min n 64 → i ≤ length (take m vs) → length (take m vs) ≤ i
+    → length (flat_map row (take i (take m vs))) ≤ 57 * i → length (rows_text (voices_of (seen_first n vs))) ≤ 3655
 rows-length-done vs n m i s e h g p =
-    let f = rows-view vs n m i s e h g in
-    let q : length (flat_map row (take i vs)) ≡ length (flat_map row_text (voices_of (seen_first n vs))) = ap length f in
+    let f = rows-view vs n m i s e g in
+    let t = length-take m vs in
+    let q : length (flat_map row (take i (take m vs))) ≡ length (flat_map row_text (voices_of (seen_first n vs))) = ap length f in
     let l : length (rows_text (voices_of (seen_first n vs))) ≡ 7 + length (flat_map row_text (voices_of (seen_first n vs))) =
     length-append voices_word (flat_map row_text (voices_of (seen_first n vs))) in
     omega arith

@@ -1,138 +1,111 @@
 -- One law for each way out of the functions that answer a line.
 use Rattle.std.specs.Prelude.{Result, Ok, Err}
 use mathlib.Core.Path.{◌≡◌, refl, ap, sym, ◌∙◌}
-use mathlib.Core.Bool.{Bool, true, false}
 use mathlib.Core.List.{List}
-use Prim.Native.Nat.{ℕ, zero, suc, ◌≤◌, ◌<◌}
+use Prim.Native.Nat.{ℕ, ◌≤◌, ◌<◌}
 use native.Mathlib.Omega.{arith}
-use lib.Dec.{eqb}
+use Rattle.std.proofs.Common.{Option, Some, None}
 use lib.Ieee.{Float}
 use lib.ListN.{length}
-use Rattle.lists.specs.Choose.{cond-true, cond-false, clash}
+use Rattle.lists.specs.Choose.{cond-true}
 use Rattle.design.specs.declared.InstrumentDesign.{InstrumentDesign}
 use Rattle.outcome.specs.declared.Refusal.{Refusal}
 use Rattle.outcome.specs.Numbers.{number_of}
-use Rattle.design.specs.declared.PlayMode.TheVariants.{Mono}
-use Rattle.design.specs.Accepted.{design_reply, is_accepted}
+use Rattle.design.specs.Accepted.{refusal_of, design_reply}
 use Rattle.forms.specs.declared.DesignForm.{DesignForm}
 use Rattle.forms.specs.declared.OnForm.{OnForm}
 use Rattle.forms.specs.declared.Form.{Form}
-use Rattle.forms.specs.declared.Form.TheVariants.{Design, On}
-use Rattle.forms.specs.Forms.{DesignFits, OnFits, FormAs}
+use Rattle.forms.specs.Forms.{FormAs}
+use Rattle.forms.specs.Named.{bits, design_of}
 use Rattle.model.specs.Types as model
 use Rattle.model.specs.Start.{fresh, start_of}
 use Rattle.table.specs.View.{voices_in}
-use Rattle.instrument.specs.declared.NewInstrument.{NewInstrument}
-use Rattle.instrument.specs.declared.Outcome.{Outcome}
+use Rattle.outcome.specs.declared.Outcome.{Outcome}
+use Rattle.instrument.proofs.Calls.{passed}
 use Rattle.instrument.specs.View.{view}
-use Rattle.instrument.specs.Calls.{reply_of, CallAs, StartAs}
+use Rattle.instrument.specs.Calls.{Called, reply_of, CallAs, StartAs}
 use Rattle.instrument.proofs.Parts.{accepted-yes}
-use Rattle.script.specs.declared.Session.{Session}
+use Rattle.instrument.specs.declared.Instrument.{Instrument}
 use Rattle.script.specs.declared.Said.{Said}
 use Rattle.script.specs.Answers.{unread_text, ready_text, refused_text, reply_text, table_text}
-use Rattle.script.specs.Lines.{Printed, NoDesign, bits, mode_of, design_of, call_of, refusal_number, Stays, DesignDoes, OnDoes, VoicesDoes, Does, LineAs}
-
-pub mode-legato : (n : ℕ) → (n ≡ 0 → ⊥) → (n ≡ 1 → ⊥) → Mono true ≡ mode_of n
-mode-legato zero f g = absurd (f refl)
-mode-legato (suc zero) f g = absurd (g refl)
-mode-legato (suc (suc n)) f g = refl
+use Rattle.script.specs.Lines.{Printed, call_of, Stays, DesignDoes, OnDoes, VoicesDoes, Does, LineAs}
 
 not-both : {n : Refusal} {A : Type 0} (x : Result (Unit {0}) Refusal) → x ≡ Ok tt → x ≡ Err n → A
-not-both x e f = let z : ◌≡◌ {A = ℕ} 0 1 = cc in let y : ⊥ = omega arith in absurd y
-
-never : (b : Bool) {A : Type 0} → b ≡ true → b ≡ false → A
-never b e f = absurd (clash b e f)
+not-both x e f = let z : ⊥ = cc in absurd z
 
 -- ---- a line that its session does not take
 
-module _ (b : Bool) (s : Session) (old new : List ℕ) (r : Said) (x : Stays s unread_text old new r) where
-  pub design-second : (d : InstrumentDesign) → b ≡ true → DesignDoes b s d old new r
-  design-second d e = rw e x
+module _ (s : Option Instrument) (old new : List ℕ) (r : Said) (x : Stays s unread_text old new r) where
+  pub design-second : (i : Instrument) (d : InstrumentDesign) → s ≡ Some i → DesignDoes s d old new r
+  design-second i d e = rw e (rw e at x)
 
-  pub on-first : (c : model.Call) → b ≡ false → OnDoes b s c old new r
-  on-first c e = rw e x
+  pub on-first : (c : model.Call) → s ≡ None → OnDoes s c old new r
+  on-first c e = rw e (rw e at x)
 
-  pub voices-first : b ≡ false → VoicesDoes b s old new r
-  voices-first e = rw e x
-
--- ---- no design yet
-
-pub no-design : (e d : InstrumentDesign) (made : NewInstrument) → d ≡ e → is_accepted e ≡ false → StartAs d made
-    → NoDesign (record { ready = false; state = made.state })
-unfolding start_of
-no-design z d made is e p =
-    record { ready = refl; in_room = p.in_room; state = p.state ∙ cond-false _ _ _ (ap is_accepted is ∙ e) }
+  pub voices-first : s ≡ None → VoicesDoes s old new r
+  voices-first e = rw e (rw e at x)
 
 -- ---- a design
 
-module _ (b : Bool) (s : Session) (f : DesignForm) (d : InstrumentDesign) (made : NewInstrument) (old new : List ℕ) (count : ℕ)
-    (e : b ≡ false) (is : d ≡ design_of f) (p : StartAs d made) where
-  pub design-refused : (n : Refusal) (k : ℕ) → made.reply ≡ Err n → k ≡ refusal_number made.reply → Printed (refused_text k) old new count
-      → DesignDoes b s (design_of f) old new (record { session = s; count = count })
+module _ (s : Option Instrument) (f : DesignForm) (d : InstrumentDesign) (made : Outcome Instrument (Unit {0})) (old new : List ℕ) (count : ℕ)
+    (e : s ≡ None) (is : d ≡ design_of f) (p : StartAs d made) where
+  pub design-refused : (n : Refusal) → made.reply ≡ Err n → Printed (refused_text (number_of n)) old new count
+      → DesignDoes s (design_of f) old new (record { session = s; count = count })
   unfolding start_of
-  design-refused n k w h q =
+  design-refused n w q =
       let g : design_reply (design_of f) ≡ Err n = sym (ap design_reply is) ∙ sym p.reply ∙ w in
       rw e (record {
         refused = λ m z.
-            let i : k ≡ number_of m = h ∙ ap refusal_number (p.reply ∙ ap design_reply is ∙ z) in
+            let i : number_of n ≡ number_of m = ap refusal_of (sym g ∙ z) in
             record { session = refl; printed = rw i at q };
-        ready = λ z. not-both _ z g;
-        in_room = λ z. not-both _ z g;
-        state = λ z. not-both _ z g;
-        printed = λ z. not-both _ z g;
+        accepted = λ z. not-both _ z g;
       })
 
-  pub design-ready : made.reply ≡ Ok tt → Printed ready_text old new count
-      → DesignDoes b s (design_of f) old new (record { session = record { ready = true; state = made.state }; count = count })
+  pub design-ready : ((n : Refusal) → made.reply ≡ Err n → ⊥) → Printed ready_text old new count
+      → DesignDoes s (design_of f) old new (record { session = Some made.state; count = count })
   unfolding start_of
   design-ready w q =
-      let g : design_reply d ≡ Ok tt = sym p.reply ∙ w in
+      let g : design_reply d ≡ Ok tt = sym p.reply ∙ passed _ w in
       rw e (record {
         refused = λ m z. not-both _ g (ap design_reply is ∙ z);
-        ready = λ _. refl;
-        in_room = λ _. p.in_room;
-        state = λ _. p.state ∙ cond-true _ _ _ (sym (accepted-yes d g)) ∙ ap fresh is;
-        printed = λ _. q;
+        accepted = λ _. record {
+          started = made.state;
+          session = refl;
+          in_room = p.in_room;
+          state = p.state ∙ cond-true _ _ _ (sym (accepted-yes d g)) ∙ ap fresh is;
+          printed = q;
+        };
       })
 
 -- ---- an `on`
 
-pub on-calls : (b : Bool) (s : Session) (f : OnForm) (v : Float) (o : Outcome) (old new : List ℕ) (count : ℕ) → b ≡ true → v ≡ bits f.velocity
-    → CallAs s.state (model.Call.note_on f.note v (eqb f.built 1)) o → Printed (reply_text (reply_of o.reply)) old new count
-    → OnDoes b s (call_of f) old new (record { session = record { ready = true; state = o.state }; count = count })
-on-calls b s f v o old new count e h p q =
-    let c : CallAs s.state (call_of f) o = rw h at p in
+pub on-calls : (s : Option Instrument) (i : Instrument) (f : OnForm) (v : Float) (o : Called) (old new : List ℕ) (count : ℕ) → s ≡ Some i → v ≡ bits f.velocity
+    → CallAs i (model.Call.note_on f.note v f.built) o → Printed (reply_text (reply_of o.reply)) old new count
+    → OnDoes s (call_of f) old new (record { session = Some o.state; count = count })
+on-calls s i f v o old new count e h p q =
+    let c : CallAs i (call_of f) o = rw h at p in
     rw e (record {
-      ready = refl;
+      next = o.state;
+      session = refl;
       steps = record { reply = refl; refused = c.refused; in_room = c.in_room; next = c.next };
       printed = rw c.reply at q;
     })
 
 -- ---- the table
 
-pub voices-table : (b : Bool) (s : Session) (old new : List ℕ) (count : ℕ) → b ≡ true
-    → Printed (table_text (voices_in s.state.table)) old new count
-    → VoicesDoes b s old new (record { session = s; count = count })
+pub voices-table : (s : Option Instrument) (i : Instrument) (old new : List ℕ) (count : ℕ) → s ≡ Some i
+    → Printed (table_text (voices_in i.table)) old new count
+    → VoicesDoes s old new (record { session = Some i; count = count })
 unfolding view
-voices-table b s old new count e q = rw e (record { session = refl; printed = q })
+voices-table s i old new count e q = rw e (record { session = refl; printed = q })
 
 -- ---- a line
 
-pub design-fits : (l : List ℕ) (form : Form) (f : DesignForm) → form ≡ Design f → FormAs l form → DesignFits f
-design-fits l form f e p =
-    let q : FormAs l (Design f) = rw e at p in
-    (q.says (λ z. let y : ◌≡◌ {A = ℕ} 0 1 = cc in omega arith)).1
-
-pub on_fits : (l : List ℕ) (form : Form) (f : OnForm) → form ≡ On f → FormAs l form → OnFits f
-on_fits l form f e p =
-    let q : FormAs l (On f) = rw e at p in
-    (q.says (λ z. let y : ◌≡◌ {A = ℕ} 0 1 = cc in omega arith)).1
-
-module _ (s : Session) (l old new : List ℕ) (r : Said) where
+module _ (s : Option Instrument) (l old new : List ℕ) (r : Said) where
   pub line_small : length old < 4096 → r.session ≡ s → new ≡ old → r.count ≡ 0 → LineAs s l old new r
   line_small h a b c = record { small = λ _. (a, b, c); answered = λ k. let z : ⊥ = omega arith in absurd z }
 
-  pub line_does : (form f : Form) → 4096 ≤ length old → FormAs l form → form ≡ f → Does f s old new r → LineAs s l old new r
+  pub line_does : (form f : Option Form) → 4096 ≤ length old → FormAs l form → form ≡ f → Does f s old new r → LineAs s l old new r
   line_does form f h p e q = record {
     small = λ k. let z : ⊥ = omega arith in absurd z;
     answered = λ _. record { form = form; reads = p; does = rw e q };

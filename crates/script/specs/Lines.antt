@@ -1,24 +1,20 @@
 -- What a line does (document 01, "The script program").
-use Rattle.std.specs.Prelude.{◌≡◌, Bool, true, false, List, ◌++◌, ℕ, zero, suc, ◌+◌, ◌≤◌, ◌<◌, eqb, Float, length, take, drop, Result, Ok, Err}
-use Rattle.std.specs.Float.Ieee.{of_bits}
-use Rattle.std.specs.Float.{binary32}
+use Rattle.std.specs.Prelude.{◌≡◌, true, Option, Some, None, Result, Ok, Err, List, ◌++◌, ℕ, ◌+◌, ◌≤◌, ◌<◌, length, take, drop}
 use Rattle.design.specs.declared.InstrumentDesign.{InstrumentDesign}
 use Rattle.outcome.specs.declared.Refusal.{Refusal}
 use Rattle.outcome.specs.Numbers.{number_of}
-use Rattle.design.specs.declared.PlayMode.{PlayMode}
-use Rattle.design.specs.declared.PlayMode.TheVariants.{Poly, Mono}
 use Rattle.design.specs.Accepted.{design_reply}
-use Rattle.forms.specs.declared.DesignForm.{DesignForm}
 use Rattle.forms.specs.declared.OnForm.{OnForm}
 use Rattle.forms.specs.declared.Form.{Form}
-use Rattle.forms.specs.declared.Form.TheVariants.{Unread, Design, On, Voices}
+use Rattle.forms.specs.declared.Form.TheVariants.{Design, On, Voices}
 use Rattle.forms.specs.Forms.{FormAs}
+use Rattle.forms.specs.Named.{bits, design_of}
 use Rattle.model.specs.Types as model
-use Rattle.model.specs.Start.{fresh, zero_state}
+use Rattle.model.specs.Start.{fresh}
 use Rattle.instrument.specs.View.{view, counted}
 use Rattle.instrument.specs.Calls.{reply_to, StepAs}
 use Rattle.script.specs.Answers.{unread_text, ready_text, refused_text, reply_text, table_text}
-use Rattle.script.specs.declared.Session.{Session}
+use Rattle.instrument.specs.declared.Instrument.{Instrument}
 use Rattle.script.specs.declared.Said.{Said}
 
 -- a text put into a buffer that has room for it: it stands from `at` to `next`, and nothing else changes
@@ -31,97 +27,67 @@ pub record Printed (text old new : List ℕ) (count : ℕ) : Type 0 where
   pub size : count ≡ length text
   pub inside : length text ≤ length old
 
-abbrev pub bits : ℕ → Float
-bits n = of_bits binary32 n
-
--- "Mode is poly, mono or legato"
-abbrev pub mode_of : ℕ → PlayMode
-mode_of zero = Poly
-mode_of (suc zero) = Mono false
-mode_of (suc (suc n)) = Mono true
-
--- the design that a line names
-abbrev pub design_of : DesignForm → InstrumentDesign
-design_of f = record {
-  sample_rate = f.rate;
-  max_voices = f.max;
-  mode = mode_of f.mode;
-  unison = f.unison;
-  unison_width = bits f.width;
-  amp = record { a = bits f.a; d = bits f.d; s = bits f.s; r = bits f.r };
-  glide = bits f.glide;
-  modulation = record {
-    vibrato_rate = bits f.vibrato_rate;
-    vibrato_cents = bits f.vibrato_cents;
-    tremolo_rate = bits f.tremolo_rate;
-    tremolo_depth = bits f.tremolo_depth;
-    filter_rate = bits f.filter_rate;
-    filter_octaves = bits f.filter_octaves;
-  };
-}
-
 -- the call that an `on` names
 abbrev pub call_of : OnForm → model.Call
-call_of f = model.Call.note_on f.note (bits f.velocity) (eqb f.built 1)
+call_of f = model.Call.note_on f.note (bits f.velocity) f.built
 
--- the number that a design is refused with, 0 where it is accepted
-abbrev pub refusal_number : Result (Unit {0}) Refusal → ℕ
-refusal_number (Ok _) = 0
-refusal_number (Err reason) = number_of reason
-
--- before the first line: a state of zeros, as a refused start gives it
-pub record NoDesign (s : Session) : Type 0 where
-  pub ready : s.ready ≡ false
-  pub in_room : counted s.state ≡ true
-  pub state : view s.state ≡ zero_state
+-- before the first line
+abbrev pub NoDesign : Option Instrument → Type 0
+NoDesign s = s ≡ None
 
 -- the very session, and this answer
-pub record Stays (s : Session) (text old new : List ℕ) (r : Said) : Type 0 where
+pub record Stays (s : Option Instrument) (text old new : List ℕ) (r : Said) : Type 0 where
   pub session : r.session ≡ s
   pub printed : Printed text old new r.count
 
+-- an accepted design starts the instrument
+pub record Starts (d : InstrumentDesign) (old new : List ℕ) (r : Said) : Type 0 where
+  pub started : Instrument
+  pub session : r.session ≡ Some started
+  pub in_room : counted started ≡ true
+  pub state : view started ≡ fresh d
+  pub printed : Printed ready_text old new r.count
+
 -- a design: "a refused design counts as none"
-pub record Begins (s : Session) (d : InstrumentDesign) (old new : List ℕ) (r : Said) : Type 0 where
-  pub refused : (reason : Refusal) → design_reply d ≡ Err reason → Stays s (refused_text (number_of reason)) old new r
-  pub ready : design_reply d ≡ Ok tt → r.session.ready ≡ true
-  pub in_room : design_reply d ≡ Ok tt → counted r.session.state ≡ true
-  pub state : design_reply d ≡ Ok tt → view r.session.state ≡ fresh d
-  pub printed : design_reply d ≡ Ok tt → Printed ready_text old new r.count
+pub record Begins (d : InstrumentDesign) (old new : List ℕ) (r : Said) : Type 0 where
+  pub refused : (reason : Refusal) → design_reply d ≡ Err reason → Stays None (refused_text (number_of reason)) old new r
+  pub accepted : design_reply d ≡ Ok tt → Starts d old new r
 
 -- a call on the state
-pub record Calls (s : Session) (c : model.Call) (old new : List ℕ) (r : Said) : Type 0 where
-  pub ready : r.session.ready ≡ true
-  pub steps : StepAs s.state c (reply_to s.state c) r.session.state
-  pub printed : Printed (reply_text (reply_to s.state c)) old new r.count
+pub record Calls (i : Instrument) (c : model.Call) (old new : List ℕ) (r : Said) : Type 0 where
+  pub next : Instrument
+  pub session : r.session ≡ Some next
+  pub steps : StepAs i c (reply_to i c) next
+  pub printed : Printed (reply_text (reply_to i c)) old new r.count
 
 -- ---- by whether a design was accepted: "a second design, or one before the design prints `(unread)`"
 
-abbrev pub DesignDoes : Bool → Session → InstrumentDesign → List ℕ → List ℕ → Said → Type 0
-DesignDoes true s d old new r = Stays s unread_text old new r
-DesignDoes false s d old new r = Begins s d old new r
+abbrev pub DesignDoes : Option Instrument → InstrumentDesign → List ℕ → List ℕ → Said → Type 0
+DesignDoes (Some i) d old new r = Stays (Some i) unread_text old new r
+DesignDoes None d old new r = Begins d old new r
 
-abbrev pub OnDoes : Bool → Session → model.Call → List ℕ → List ℕ → Said → Type 0
-OnDoes true s c old new r = Calls s c old new r
-OnDoes false s c old new r = Stays s unread_text old new r
+abbrev pub OnDoes : Option Instrument → model.Call → List ℕ → List ℕ → Said → Type 0
+OnDoes (Some i) c old new r = Calls i c old new r
+OnDoes None c old new r = Stays None unread_text old new r
 
-abbrev pub VoicesDoes : Bool → Session → List ℕ → List ℕ → Said → Type 0
-VoicesDoes true s old new r = Stays s (table_text (view s.state).voices) old new r
-VoicesDoes false s old new r = Stays s unread_text old new r
+abbrev pub VoicesDoes : Option Instrument → List ℕ → List ℕ → Said → Type 0
+VoicesDoes (Some i) old new r = Stays (Some i) (table_text (view i).voices) old new r
+VoicesDoes None old new r = Stays None unread_text old new r
 
 -- by the form of the line: "Any other line .. prints `(unread)`"
-abbrev pub Does : Form → Session → List ℕ → List ℕ → Said → Type 0
-Does Unread s old new r = Stays s unread_text old new r
-Does (Design f) s old new r = DesignDoes s.ready s (design_of f) old new r
-Does (On f) s old new r = OnDoes s.ready s (call_of f) old new r
-Does Voices s old new r = VoicesDoes s.ready s old new r
+abbrev pub Does : Option Form → Option Instrument → List ℕ → List ℕ → Said → Type 0
+Does None s old new r = Stays s unread_text old new r
+Does (Some (Design f)) s old new r = DesignDoes s (design_of f) old new r
+Does (Some (On f)) s old new r = OnDoes s (call_of f) old new r
+Does (Some Voices) s old new r = VoicesDoes s old new r
 
 -- the line is read as a form, and that form is answered
-pub record Answered (s : Session) (line old new : List ℕ) (r : Said) : Type 0 where
-  pub form : Form
+pub record Answered (s : Option Instrument) (line old new : List ℕ) (r : Said) : Type 0 where
+  pub form : Option Form
   pub reads : FormAs line form
   pub does : Does form s old new r
 
 -- in a buffer of fewer than 4,096 bytes nothing is done
-pub record LineAs (s : Session) (line old new : List ℕ) (r : Said) : Type 0 where
+pub record LineAs (s : Option Instrument) (line old new : List ℕ) (r : Said) : Type 0 where
   pub small : length old < 4096 → (r.session ≡ s) × (new ≡ old) × (r.count ≡ 0)
   pub answered : 4096 ≤ length old → Answered s line old new r

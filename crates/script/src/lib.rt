@@ -2,32 +2,26 @@
 
 #![tactic(auto)]
 
-ghost use Rattle.std.specs.Prelude.{◌≡◌, ◌+◌, ◌<◌, ◌≤◌, length, true, false};
-ghost use Rattle.std.specs.Float.Ieee.{of_bits};
-ghost use Rattle.std.specs.Float.{binary32};
+ghost use Rattle.std.specs.Prelude.{◌≡◌, ◌+◌, ◌≤◌, length, Ok};
 ghost use Rattle.lists.specs.Count.{one_if};
 ghost use Rattle.voice.specs.View.{shown};
 ghost use Rattle.table.specs.View.{seen_first, voices_of};
 ghost use Rattle.instrument.specs.Calls.{reply_of};
-ghost use Rattle.instrument.specs.declared.Reply.TheVariants.{Started};
-ghost use Rattle.forms.specs.Forms.{DesignFits, OnFits};
+ghost use Rattle.model.specs.Types.{Reply.started};
+ghost use Rattle.outcome.specs.Numbers.{number_of};
 ghost use Rattle.forms.specs.Forms.{decimal_part, word_part};
-ghost use Rattle.script.specs.Answers.{unread_text, one_text, reply_text, row_text, rows_text, table_text};
-ghost use Rattle.script.specs.Lines.{Puts, mode_of, design_of, call_of, refusal_number, NoDesign, Stays, DesignDoes, OnDoes, VoicesDoes, LineAs};
+ghost use Rattle.forms.specs.Named.{design_of};
+ghost use Rattle.script.specs.Answers.{unread_text, one_text, refused_text, reply_text, row_text, rows_text, table_text};
+ghost use Rattle.script.specs.Lines.{Puts, call_of, NoDesign, Stays, DesignDoes, OnDoes, VoicesDoes, LineAs};
 
-use design::{Adsr, InstrumentDesign, Modulation, PlayMode};
 use forms::{DesignForm, Form, OnForm};
 use instrument::{Instrument, Reply};
 use lists::smaller;
 use outcome::Refusal;
 use voice::Voice;
 
-// `ready` once a design was accepted.
-#[derive(Clone, Copy)]
-pub struct Session {
-    pub ready: bool,
-    pub state: Instrument,
-}
+// The instrument, once a design was accepted.
+pub type Session = Option<Instrument>;
 
 // The session after a line, and how many bytes were printed.
 #[derive(Clone, Copy)]
@@ -66,8 +60,8 @@ fn put_one(out: &mut [u8], word: &[u8], n: u64) -> usize
 }
 
 fn put_started(out: &mut [u8], handle: u64, killed: u64, taken: u64) -> usize
-    ensures puts { Puts (reply_text (reply_of (Started handle killed taken))) out.old 0 out.new result }
-    ensures taken_len_bound { length (reply_text (reply_of (Started handle killed taken))) ≤ 73 }
+    ensures puts { Puts (reply_text (started handle killed taken)) out.old 0 out.new result }
+    ensures taken_len_bound { length (reply_text (started handle killed taken)) ≤ 73 }
 {
     let a = put_decimal(out, 0, b"(started ", handle);
     let b = put_decimal(out, a, b" ", killed);
@@ -75,19 +69,39 @@ fn put_started(out: &mut [u8], handle: u64, killed: u64, taken: u64) -> usize
     text::put_literal(out, c, b")\n")
 }
 
-fn put_reply(out: &mut [u8], reply: Reply) -> usize
-    ensures puts { Puts (reply_text (reply_of reply)) out.old 0 out.new result }
-    ensures reply_len_bound { length (reply_text (reply_of reply)) ≤ 4096 }
+fn put_accepted(out: &mut [u8], reply: Reply) -> usize
+    ensures puts { Puts (reply_text (reply_of (Ok reply))) out.old 0 out.new result }
+    ensures reply_len_bound { length (reply_text (reply_of (Ok reply))) ≤ 4096 }
 {
     match reply {
-        Reply::Started(handle, killed, taken) => put_started(out, handle, killed, taken),
+        Reply::Started {
+            handle,
+            killed,
+            taken,
+        } => put_started(out, handle, killed.unwrap_or(0), taken.unwrap_or(0)),
         Reply::Silent(handle) => put_one(out, b"(silent ", handle),
         Reply::Kept(handle) => put_one(out, b"(kept ", handle),
         Reply::Off(found) => put_one(out, b"(off ", bit(found)),
         Reply::Done => text::put_literal(out, 0, b"(done)\n"),
         Reply::Released(found) => put_one(out, b"(released ", bit(found)),
         Reply::Planned => text::put_literal(out, 0, b"(done)\n"),
-        Reply::Refused(n) => put_one(out, b"(refused ", n as u64),
+    }
+}
+
+fn put_refused(out: &mut [u8], refusal: Refusal) -> usize
+    ensures puts { Puts (refused_text (number_of refusal)) out.old 0 out.new result }
+    ensures refusal_len_bound { length (refused_text (number_of refusal)) ≤ 4096 }
+{
+    put_one(out, b"(refused ", refusal.number() as u64)
+}
+
+fn put_reply(out: &mut [u8], reply: Result<Reply, Refusal>) -> usize
+    ensures puts { Puts (reply_text (reply_of reply)) out.old 0 out.new result }
+    ensures reply_len_bound { length (reply_text (reply_of reply)) ≤ 4096 }
+{
+    match reply {
+        Ok(reply) => put_accepted(out, reply),
+        Err(refusal) => put_refused(out, refusal),
     }
 }
 
@@ -109,12 +123,10 @@ fn put_rows(vs: [Voice; 64], n: usize, out: &mut [u8]) -> usize
     ensures puts { Puts (rows_text (voices_of (seen_first n vs))) out.old 0 out.new result }
     ensures vs_len_bound { length (rows_text (voices_of (seen_first n vs))) ≤ 3655 }
 {
-    let m = smaller(n, 64);
+    let seen = &vs[..smaller(n, 64)];
     let mut next = text::put_literal(out, 0, b"(voices");
-    let mut i: usize = 0;
-    while i < m {
-        next = put_row(out, next, vs[i]);
-        i += 1;
+    for v in seen {
+        next = put_row(out, next, *v);
     }
     next
 }
@@ -135,132 +147,47 @@ fn unread(s: Session, out: &mut [u8]) -> Said
     Said { session: s, count }
 }
 
-fn mode_of(n: u64) -> PlayMode
-    ensures { result ≡ mode_of n }
-{
-    if n == 0 {
-        return PlayMode::Poly;
-    }
-    if n == 1 {
-        return PlayMode::Mono { legato: false };
-    }
-    PlayMode::Mono { legato: true }
-}
-
-fn float_of(n: u64) -> f32
-    requires { n < 0x1_0000_0000 }
-    ensures { result ≡ of_bits binary32 n }
-{
-    float32::from_bits(n as u32)
-}
-
-fn modulation_of(f: DesignForm) -> Modulation
-    requires { DesignFits f }
-    ensures { result ≡ (design_of f).modulation }
-{
-    Modulation {
-        vibrato_rate: float_of(f.vibrato_rate),
-        vibrato_cents: float_of(f.vibrato_cents),
-        tremolo_rate: float_of(f.tremolo_rate),
-        tremolo_depth: float_of(f.tremolo_depth),
-        filter_rate: float_of(f.filter_rate),
-        filter_octaves: float_of(f.filter_octaves),
-    }
-}
-
-fn amp_of(f: DesignForm) -> Adsr
-    requires { DesignFits f }
-    ensures { result ≡ (design_of f).amp }
-{
-    Adsr {
-        a: float_of(f.a),
-        d: float_of(f.d),
-        s: float_of(f.s),
-        r: float_of(f.r),
-    }
-}
-
-fn design_of(f: DesignForm) -> InstrumentDesign
-    requires { DesignFits f }
-    ensures { result ≡ design_of f }
-{
-    let mode = mode_of(f.mode);
-    let amp = amp_of(f);
-    let modulation = modulation_of(f);
-    let unison_width = float_of(f.width);
-    let glide = float_of(f.glide);
-    InstrumentDesign {
-        sample_rate: f.rate as u32,
-        max_voices: f.max as u32,
-        mode,
-        unison: f.unison as u32,
-        unison_width,
-        amp,
-        glide,
-        modulation,
-    }
-}
-
-// 0 where the design is accepted.
-fn refusal_of(reply: Result<(), Refusal>) -> u64
-    ensures { result ≡ refusal_number reply }
-{
-    match reply {
-        Ok(_) => 0,
-        Err(reason) => reason.number() as u64,
-    }
-}
-
 fn design_line(s: Session, f: DesignForm, out: &mut [u8]) -> Said
-    requires design_fits { DesignFits f }
-    requires in_bounds { 4096 ≤ length out.old }
-    ensures { DesignDoes s.ready s (design_of f) out.old out.new result }
+    requires { 4096 ≤ length out.old }
+    ensures { DesignDoes s (design_of f) out.old out.new result }
 {
-    if s.ready {
+    if let Some(_) = s {
         return unread(s, out);
     }
-    let made = Instrument::new(design_of(f));
-    let reply = made.reply;
-    let Ok(_) = reply else {
-        let count = put_one(out, b"(refused ", refusal_of(reply));
+    let made = Instrument::new(f.design());
+    if let Err(refusal) = made.reply {
+        let count = put_refused(out, refusal);
         return Said { session: s, count };
-    };
+    }
     let count = text::put_literal(out, 0, b"(ready)\n");
-    let state = made.state;
     Said {
-        session: Session { ready: true, state },
+        session: Some(made.state),
         count,
     }
 }
 
 fn on_line(s: Session, f: OnForm, out: &mut [u8]) -> Said
-    requires on_fits { OnFits f }
-    requires in_bounds { 4096 ≤ length out.old }
-    ensures { OnDoes s.ready s (call_of f) out.old out.new result }
+    requires { 4096 ≤ length out.old }
+    ensures { OnDoes s (call_of f) out.old out.new result }
 {
-    if !s.ready {
+    let Some(before) = s else {
         return unread(s, out);
-    }
-    let before = s.state;
-    let velocity = float_of(f.velocity);
-    let outcome = before.note_on(f.note as u8, velocity, f.built == 1);
-    let reply = outcome.reply;
-    let state = outcome.state;
-    let count = put_reply(out, reply);
+    };
+    let outcome = before.note_on(f.note, float32::from_bits(f.velocity), f.built);
+    let count = put_reply(out, outcome.reply);
     Said {
-        session: Session { ready: true, state },
+        session: Some(outcome.state),
         count,
     }
 }
 
 fn voices_line(s: Session, out: &mut [u8]) -> Said
     requires { 4096 ≤ length out.old }
-    ensures { VoicesDoes s.ready s out.old out.new result }
+    ensures { VoicesDoes s out.old out.new result }
 {
-    if !s.ready {
+    let Some(state) = s else {
         return unread(s, out);
-    }
-    let state = s.state;
+    };
     let table = state.table;
     let vs = table.voices;
     let count = put_table(vs, table.count, out);
@@ -271,30 +198,7 @@ fn voices_line(s: Session, out: &mut [u8]) -> Said
 pub fn start() -> Session
     ensures { NoDesign result }
 {
-    let none = DesignForm {
-        rate: 0,
-        max: 0,
-        mode: 0,
-        unison: 0,
-        width: 0,
-        a: 0,
-        d: 0,
-        s: 0,
-        r: 0,
-        glide: 0,
-        vibrato_rate: 0,
-        vibrato_cents: 0,
-        tremolo_rate: 0,
-        tremolo_depth: 0,
-        filter_rate: 0,
-        filter_octaves: 0,
-    };
-    let made = Instrument::new(design_of(none));
-    let state = made.state;
-    Session {
-        ready: false,
-        state,
-    }
+    None
 }
 
 // Answers one line, without its line feed, into a buffer of at least 4,096 bytes.
@@ -307,9 +211,10 @@ pub fn line(s: Session, line: &[u8], out: &mut [u8]) -> Said
             count: 0,
         };
     }
-    let form = forms::read(line);
+    let Some(form) = forms::read(line) else {
+        return unread(s, out);
+    };
     match form {
-        Form::Unread => unread(s, out),
         Form::Design(f) => design_line(s, f, out),
         Form::On(f) => on_line(s, f, out),
         Form::Voices => voices_line(s, out),

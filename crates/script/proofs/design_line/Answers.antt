@@ -5,17 +5,15 @@ use Rattle.script.proofs.design_line.Goals as goal
 
 -- `script::design_line` meets its contract: a second design, a refused one, an accepted one.
 
-pub returns-then-s : goal.returns-then-s
-returns-then-s c = design-second c.args.s.ready _ _ _ _ c.unread.ensures _ c.if-s.true
+pub returns-in-Some : goal.returns-in-Some
+returns-in-Some c = design-second c.args.s _ _ _ c.unread.ensures _ _ c.in-Some.is
 
-pub returns-in_default : goal.returns-in_default
-returns-in_default c =
-    design-refused c.args.s.ready c.args.s c.args.f _ c.new-made.result _ _ _ c.if-s.false c.design_of.ensures
-    c.new-made.ensures _ _ c.in_default.is c.refusal_of.ensures
-    (printed _ _ _ _ c.put_one-count.ensures.puts (omega (arith, c.put_one-count.ensures.n_in_bounds)) c.requires.in_bounds)
+pub returns-in-Err : goal.returns-in-Err
+returns-in-Err c =
+    design-refused c.args.s c.args.f _ c.new-made.result _ _ _ c.in_default.is c.design.ensures c.new-made.ensures _ c.in-Err.is
+    (printed _ _ _ _ c.put_refused-count.ensures.puts c.put_refused-count.ensures.refusal_len_bound c.requires)
 
 pub returns : goal.returns
 returns c =
-    design-ready c.args.s.ready c.args.s c.args.f _ c.new-made.result _ _ _ c.if-s.false c.design_of.ensures
-    c.new-made.ensures c.in-Ok.is
-    (printed _ _ _ _ (puts _ _ _ _ _ c.put_literal-count.ensures) (omega arith) c.requires.in_bounds)
+    design-ready c.args.s c.args.f _ c.new-made.result _ _ _ c.in_default.is c.design.ensures c.new-made.ensures c.in_default-2.not-Err
+    (printed _ _ _ _ (puts _ _ _ _ _ c.put_literal-count.ensures) (omega arith) c.requires)

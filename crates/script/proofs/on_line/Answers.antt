@@ -1,4 +1,3 @@
-use borrow.Author.Tests.{not-true, not-false}
 use Rattle.script.specs.Lines.{call_of}
 use Rattle.script.proofs.Prints.{printed}
 use Rattle.script.proofs.Turns.{on-first, on-calls}
@@ -6,11 +5,10 @@ use Rattle.script.proofs.on_line.Goals as goal
 
 -- `script::on_line` meets its contract: before the design, and after it.
 
-pub returns-then-not-s : goal.returns-then-not-s
-returns-then-not-s c = on-first c.args.s.ready _ _ _ _ c.unread.ensures (call_of c.args.f) (not-true _ c.if-not-s.true)
+pub returns-in_default : goal.returns-in_default
+returns-in_default c = on-first c.args.s _ _ _ c.unread.ensures (call_of c.args.f) c.in_default.is
 
 pub returns : goal.returns
 returns c =
-    on-calls c.args.s.ready c.args.s c.args.f _ c.note_on-outcome.result _ _ _ (not-false _ c.if-not-s.false)
-    c.float_of-velocity.ensures c.note_on-outcome.ensures
-    (printed _ _ _ _ c.put_reply-count.ensures.puts c.put_reply-count.ensures.reply_len_bound c.requires.in_bounds)
+    on-calls c.args.s _ c.args.f _ c.note_on-outcome.result _ _ _ c.in-Some.is c.from_bits.ensures c.note_on-outcome.ensures
+    (printed _ _ _ _ c.put_reply-count.ensures.puts c.put_reply-count.ensures.reply_len_bound c.requires)
