@@ -11,7 +11,7 @@ use Rattle.lists.specs.Choose.{cond-true}
 use Rattle.design.specs.declared.InstrumentDesign.{InstrumentDesign}
 use Rattle.outcome.specs.declared.Refusal.{Refusal}
 use Rattle.outcome.specs.Numbers.{number_of}
-use Rattle.design.specs.Accepted.{refusal_of, design_reply}
+use Rattle.design.specs.Accepted.{design_reply}
 use Rattle.forms.specs.declared.DesignForm.{DesignForm}
 use Rattle.forms.specs.declared.OnForm.{OnForm}
 use Rattle.forms.specs.declared.Form.{Form}
@@ -21,13 +21,12 @@ use Rattle.model.specs.Types as model
 use Rattle.model.specs.Start.{fresh, start_of}
 use Rattle.table.specs.View.{voices_in}
 use Rattle.outcome.specs.declared.Outcome.{Outcome}
-use Rattle.instrument.proofs.Calls.{passed}
 use Rattle.instrument.specs.View.{view}
 use Rattle.instrument.specs.Calls.{Called, reply_of, CallAs, StartAs}
 use Rattle.instrument.proofs.Parts.{accepted-yes}
 use Rattle.instrument.specs.declared.Instrument.{Instrument}
 use Rattle.script.specs.declared.Said.{Said}
-use Rattle.script.specs.Answers.{unread_text, ready_text, refused_text, reply_text, table_text}
+use Rattle.script.specs.Answers.{unread_text, ready_text, start_text, reply_text, table_text}
 use Rattle.script.specs.Lines.{Printed, call_of, Stays, DesignDoes, OnDoes, VoicesDoes, Does, LineAs}
 
 not-both : {n : Refusal} {A : Type 0} (x : Result (Unit {0}) Refusal) → x ≡ Ok tt → x ≡ Err n → A
@@ -49,23 +48,21 @@ module _ (s : Option Instrument) (old new : List ℕ) (r : Said) (x : Stays s un
 
 module _ (s : Option Instrument) (f : DesignForm) (d : InstrumentDesign) (made : Outcome Instrument (Unit {0})) (old new : List ℕ) (count : ℕ)
     (e : s ≡ None) (is : d ≡ design_of f) (p : StartAs d made) where
-  pub design-refused : (n : Refusal) → made.reply ≡ Err n → Printed (refused_text (number_of n)) old new count
+  pub design-refused : ((u : Unit {0}) → made.reply ≡ Ok u → ⊥) → Printed (start_text made.reply) old new count
       → DesignDoes s (design_of f) old new (record { session = s; count = count })
   unfolding start_of
-  design-refused n w q =
-      let g : design_reply (design_of f) ≡ Err n = sym (ap design_reply is) ∙ sym p.reply ∙ w in
+  design-refused w q =
+      let g : made.reply ≡ design_reply (design_of f) = p.reply ∙ ap design_reply is in
       rw e (record {
-        refused = λ m z.
-            let i : number_of n ≡ number_of m = ap refusal_of (sym g ∙ z) in
-            record { session = refl; printed = rw i at q };
-        accepted = λ z. not-both _ z g;
+        refused = λ m z. record { session = refl; printed = rw (g ∙ z) at q };
+        accepted = λ z. absurd (w tt (g ∙ z));
       })
 
-  pub design-ready : ((n : Refusal) → made.reply ≡ Err n → ⊥) → Printed ready_text old new count
+  pub design-ready : made.reply ≡ Ok tt → Printed (start_text made.reply) old new count
       → DesignDoes s (design_of f) old new (record { session = Some made.state; count = count })
   unfolding start_of
   design-ready w q =
-      let g : design_reply d ≡ Ok tt = sym p.reply ∙ passed _ w in
+      let g : design_reply d ≡ Ok tt = sym p.reply ∙ w in
       rw e (record {
         refused = λ m z. not-both _ g (ap design_reply is ∙ z);
         accepted = λ _. record {
@@ -73,7 +70,7 @@ module _ (s : Option Instrument) (f : DesignForm) (d : InstrumentDesign) (made :
           session = refl;
           in_room = p.in_room;
           state = p.state ∙ cond-true _ _ _ (sym (accepted-yes d g)) ∙ ap fresh is;
-          printed = q;
+          printed = rw w at q;
         };
       })
 

@@ -1,9 +1,11 @@
 -- What the script program prints (document 01, "The script program"), each answer with its line feed.
 use mathlib.Core.List.{List, [], ◌∷◌, ◌++◌, flat_map}
-use Rattle.std.specs.Prelude.{ℕ}
+use Rattle.std.specs.Prelude.{ℕ, Result, Ok, Err}
 use Rattle.std.specs.Float.Ieee.{to_bits}
 use Rattle.std.specs.Float.{binary32}
 use Rattle.lists.specs.Count.{one_if}
+use Rattle.outcome.specs.declared.Refusal.{Refusal}
+use Rattle.outcome.specs.Numbers.{number_of}
 use Rattle.forms.specs.Forms.{space, close, decimal_part, word_part}
 use Rattle.model.specs.Types as model
 
@@ -64,6 +66,11 @@ one_text word n = decimal_part word n ++ close_line
 -- "A refusal prints `(refused number)`"
 abbrev pub refused_text : ℕ → List ℕ
 refused_text n = one_text refused_word n
+
+-- a start
+abbrev pub start_text : Result (Unit {0}) Refusal → List ℕ
+start_text (Ok _) = ready_text
+start_text (Err refusal) = refused_text (number_of refusal)
 
 -- "Started: handle, killed, taken", "`(silent h)`, `(kept h)` .. or `(off f)` with f 1 if found"; the last four answer
 -- no `on`

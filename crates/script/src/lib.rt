@@ -8,10 +8,9 @@ ghost use Rattle.voice.specs.View.{shown};
 ghost use Rattle.table.specs.View.{seen_first, voices_of};
 ghost use Rattle.instrument.specs.Calls.{reply_of};
 ghost use Rattle.model.specs.Types.{Reply.started};
-ghost use Rattle.outcome.specs.Numbers.{number_of};
 ghost use Rattle.forms.specs.Forms.{decimal_part, word_part};
 ghost use Rattle.forms.specs.Named.{design_of};
-ghost use Rattle.script.specs.Answers.{unread_text, one_text, refused_text, reply_text, row_text, rows_text, table_text};
+ghost use Rattle.script.specs.Answers.{unread_text, one_text, start_text, reply_text, row_text, rows_text, table_text};
 ghost use Rattle.script.specs.Lines.{Puts, call_of, NoDesign, Stays, DesignDoes, OnDoes, VoicesDoes, LineAs};
 
 use forms::{DesignForm, Form, OnForm};
@@ -88,20 +87,23 @@ fn put_accepted(out: &mut [u8], reply: Reply) -> usize
     }
 }
 
-fn put_refused(out: &mut [u8], refusal: Refusal) -> usize
-    ensures puts { Puts (refused_text (number_of refusal)) out.old 0 out.new result }
-    ensures refusal_len_bound { length (refused_text (number_of refusal)) ≤ 4096 }
-{
-    put_one(out, b"(refused ", refusal.number() as u64)
-}
-
 fn put_reply(out: &mut [u8], reply: Result<Reply, Refusal>) -> usize
     ensures puts { Puts (reply_text (reply_of reply)) out.old 0 out.new result }
     ensures reply_len_bound { length (reply_text (reply_of reply)) ≤ 4096 }
 {
     match reply {
         Ok(reply) => put_accepted(out, reply),
-        Err(refusal) => put_refused(out, refusal),
+        Err(refusal) => put_one(out, b"(refused ", refusal.number() as u64),
+    }
+}
+
+fn put_start(out: &mut [u8], reply: Result<(), Refusal>) -> usize
+    ensures puts { Puts (start_text reply) out.old 0 out.new result }
+    ensures reply_len_bound { length (start_text reply) ≤ 4096 }
+{
+    match reply {
+        Ok(()) => text::put_literal(out, 0, b"(ready)\n"),
+        Err(refusal) => put_one(out, b"(refused ", refusal.number() as u64),
     }
 }
 
@@ -155,11 +157,10 @@ fn design_line(s: Session, f: DesignForm, out: &mut [u8]) -> Said
         return unread(s, out);
     }
     let made = Instrument::new(f.design());
-    if let Err(refusal) = made.reply {
-        let count = put_refused(out, refusal);
+    let count = put_start(out, made.reply);
+    let Ok(()) = made.reply else {
         return Said { session: s, count };
-    }
-    let count = text::put_literal(out, 0, b"(ready)\n");
+    };
     Said {
         session: Some(made.state),
         count,

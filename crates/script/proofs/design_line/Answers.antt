@@ -8,12 +8,12 @@ use Rattle.script.proofs.design_line.Goals as goal
 pub returns-in-Some : goal.returns-in-Some
 returns-in-Some c = design-second c.args.s _ _ _ c.unread.ensures _ _ c.in-Some.is
 
-pub returns-in-Err : goal.returns-in-Err
-returns-in-Err c =
-    design-refused c.args.s c.args.f _ c.new-made.result _ _ _ c.in_default.is c.design.ensures c.new-made.ensures _ c.in-Err.is
-    (printed _ _ _ _ c.put_refused-count.ensures.puts c.put_refused-count.ensures.refusal_len_bound c.requires)
+pub returns-in_default-2 : goal.returns-in_default-2
+returns-in_default-2 c =
+    design-refused c.args.s c.args.f _ c.new-made.result _ _ _ c.in_default.is c.design.ensures c.new-made.ensures c.in_default-2.not-Ok
+    (printed _ _ _ _ c.put_start-count.ensures.puts c.put_start-count.ensures.reply_len_bound c.requires)
 
 pub returns : goal.returns
 returns c =
-    design-ready c.args.s c.args.f _ c.new-made.result _ _ _ c.in_default.is c.design.ensures c.new-made.ensures c.in_default-2.not-Err
-    (printed _ _ _ _ (puts _ _ _ _ _ c.put_literal-count.ensures) (omega arith) c.requires)
+    design-ready c.args.s c.args.f _ c.new-made.result _ _ _ c.in_default.is c.design.ensures c.new-made.ensures c.in-Ok.is
+    (printed _ _ _ _ c.put_start-count.ensures.puts c.put_start-count.ensures.reply_len_bound c.requires)
