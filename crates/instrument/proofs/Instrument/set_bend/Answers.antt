@@ -2,6 +2,9 @@ use mathlib.Core.Path.{refl, sym, ◌∙◌}
 use Rattle.instrument.proofs.Calls.{Free, free, barred-by, barred-call}
 use Rattle.instrument.specs.Calls.{tuned_as}
 use Rattle.instrument.proofs.Controls.{bend-call}
+use borrow.Author.Rules.{rules}
+use Rattle.stream.specs.Pitch.{bent, cut_to}
+use Rattle.model.specs.Voices.{with_copies}
 use Rattle.instrument.proofs.Instrument.set_bend.Goals as goal
 
 pub returns-then-number-ne0 : goal.returns-then-number-ne0
@@ -11,4 +14,4 @@ pub returns : goal.returns
 unfolding tuned_as
 returns c =
     let fine : Free c.args.self = free _ (sym (barred-by _ _ _ c.well_formed-2.ensures c.barred-number.ensures) ∙ c.if-number-ne0.false) in
-    bend-call _ fine _ _ _ c.change_all-bent.ensures c.answered.ensures
+    bend-call _ fine _ _ _ (c.change_all-after.ensures (with_copies (bent c.args.factor)) (λ v w p. search rules)) c.answered.ensures
