@@ -2,6 +2,7 @@ pub mod Sizes
 pub mod Parts
 pub mod Formed
 pub mod Calls
+pub mod Found
 pub mod Controls
 pub mod Offs
 pub mod Ons

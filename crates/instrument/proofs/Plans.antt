@@ -35,9 +35,7 @@ use Rattle.table.specs.declared.Table.{Table}
 use Rattle.table.specs.Plans.{GlidedTable}
 use Rattle.table.proofs.Changes.{map-seen}
 use Rattle.table.proofs.Gliding.{glides-whole}
-use Rattle.voice.specs.Changes.{copy_changed, voice_changed, on_seen}
-use Rattle.voice.specs.declared.CopyChange.TheVariants.{Bend, Wobble}
-use Rattle.voice.specs.declared.VoiceChange.{VoiceChange}
+use Rattle.voice.specs.Changes.{on_seen}
 use Rattle.instrument.specs.View.{view, roomy, counted}
 use Rattle.instrument.specs.Calls.{Called, refusal_of, lent_of, answered_as, refused_as, moved_as, blocked_as}
 use Rattle.instrument.specs.Plans.{PlannedAs, plan_fits, step_of, phase_on, wobble_of, StandsFor}
@@ -119,25 +117,20 @@ abbrev pub ModulatedAs : Instrument → ℕ → Float → Float → Float → In
 ModulatedAs s n vibrato filter sine r = StandsFor s (modulated_by (view s) n vibrato filter sine) r
 
 -- the change of every copy is the definition's
-wobble-is : (s : Instrument) (v f : Float) → voice_changed (wobble_of s.design.modulation (mul binary32 s.bend v) (mul binary32 s.brightness f)) ≡ with_copies (wobbled (view s) v f)
+wobble-is : (s : Instrument) (v f : Float) → with_copies (wobble_of s.design.modulation (mul binary32 s.bend v) (mul binary32 s.brightness f)) ≡ with_copies (wobbled (view s) v f)
 unfolding wobble_of wobbled view
-wobble-is s v f = ap with_copies (fun_ext (λ c. by (lt +0 s.design.modulation.filter_octaves) (mul binary32 s.bend v) (mul binary32 s.brightness f) c))
-  where
-    by : (t : Bool) (b k : Float) (c : UnisonCopy) → copy_changed (cond t (Wobble b k) (Bend b)) c ≡ cond t (cut_to k (bent b c)) (bent b c)
-    by true b k c = refl
-    by false b k c = refl
+wobble-is s v f = refl
 
 module _ (s : Instrument) (n : ℕ) (vibrato filter sine : Float) where
-  pub applies : (r : Instrument) (v f t d a b c : Float) (w : VoiceChange) (u : Table)
+  pub applies : (r : Instrument) (v f t d a b c : Float) (u : Table)
       → v ≡ vibrato_factor s.design.modulation vibrato → f ≡ filter_factor s.design.modulation filter → t ≡ tremolo_gain s.design.modulation sine
       → d ≡ step_of n s.design.sample_rate → a ≡ phase_on s.vib_phase s.design.modulation.vibrato_rate d
       → b ≡ phase_on s.flt_phase s.design.modulation.filter_rate d → c ≡ phase_on s.trem_phase s.design.modulation.tremolo_rate d
-      → w ≡ wobble_of s.design.modulation (mul binary32 s.bend v) (mul binary32 s.brightness f)
-      → Holds (map (on_seen (voice_changed w)) (seen_in s.table)) u → r ≡ moved_as s u a b c t
+      → Holds (map (on_seen (with_copies (wobble_of s.design.modulation (mul binary32 s.bend v) (mul binary32 s.brightness f)))) (seen_in s.table)) u → r ≡ moved_as s u a b c t
       → StandsFor s (applied (view s) n vibrato filter sine) r
   unfolding applied phase_after view
-  applies r v f t d a b c w u ev ef et ed ea eb ec ew e q =
-      let g : voice_changed w ≡ with_copies (wobbled (view s) (vibrato_factor s.design.modulation vibrato) (filter_factor s.design.modulation filter)) = rw (ew, ev, ef) (wobble-is s _ _) in
+  applies r v f t d a b c u ev ef et ed ea eb ec e q =
+      let g : with_copies (wobble_of s.design.modulation (mul binary32 s.bend v) (mul binary32 s.brightness f)) ≡ with_copies (wobbled (view s) (vibrato_factor s.design.modulation vibrato) (filter_factor s.design.modulation filter)) = rw (ev, ef) (wobble-is s _ _) in
       rw (q, ea, eb, ec, et, ed) (moved-stands s _ u (rw g at e) _ _ _ _)
 
   pub modulated-on : (r : Instrument) → modulated s.design.modulation ≡ true → StandsFor s (applied (view s) n vibrato filter sine) r → ModulatedAs s n vibrato filter sine r

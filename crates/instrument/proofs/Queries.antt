@@ -1,7 +1,8 @@
 -- The ways out of the queries.
-use Rattle.std.specs.Prelude.{None, Some, Ok, Err}
-use mathlib.Core.Path.{◌≡◌, refl, sym}
-use mathlib.Core.Bool.{Bool, true, false}
+use Rattle.std.specs.Prelude.{Option, None, Some, Ok, Err}
+use Rattle.std.specs.Option.{is_some}
+use mathlib.Core.Path.{◌≡◌, refl, ap, sym}
+use mathlib.Core.Bool.{Bool, true, false, cond}
 use Prim.Native.Nat.{ℕ, ◌≤◌, ◌<◌}
 use native.Mathlib.Omega.{arith}
 use lib.Dec.{ltb}
@@ -15,12 +16,16 @@ use Rattle.model.specs.Formed.{well_formed}
 use Rattle.model.specs.Queries as Q
 use Rattle.model.specs.Queries.{is_active, active_voices, sounds_note, VoiceOf}
 use Rattle.model.specs.Voices.{is_place, place_of, has_handle, handle_at}
-use Rattle.table.specs.View.{voices_in}
+use Rattle.table.specs.View.{voices_in, place_in}
 use Rattle.instrument.specs.View.{view, counted, formed}
 use Rattle.instrument.specs.Asked.{asked_of, VoiceAs}
 use Rattle.instrument.specs.declared.Instrument.{Instrument}
 use Rattle.instrument.proofs.Calls.{counts}
 use Rattle.instrument.proofs.Formed.{voices-count}
+
+some-inside : (b : Bool) (k : ℕ) → is_some (cond b (Some k) None) ≡ b
+some-inside true k = refl
+some-inside false k = refl
 
 -- a state that is not well formed, on its counts or on what it stands for
 module _ (s : Instrument) (e : formed s ≡ false) where
@@ -47,16 +52,17 @@ module _ (s : Instrument) (e : formed s ≡ false) where
 
 -- a state that is well formed
 module _ (s : Instrument) (e : formed s ≡ true) (lv : length s.table.voices ≡ 64) where
-  fine : (counted s ≡ true) × (well_formed (view s) ≡ true)
+  pub fine : (counted s ≡ true) × (well_formed (view s) ≡ true)
   unfolding formed
   fine = both (counted s) (well_formed (view s)) e
 
   long : s.table.count ≤ length s.table.voices
   long = let k = (counts s fine.0).voices64 in omega arith
 
-  pub active-found : (h k : ℕ) → k ≡ find_at (has_handle h) (voices_in s.table) → Q.Answer.active (ltb k s.table.count) ≡ asked_of s (is_active (view s) h)
+  pub active-found : (h : ℕ) (o : Option ℕ) (b : Bool) → o ≡ place_in (find_at (has_handle h) (voices_in s.table)) (voices_in s.table) → b ≡ is_some o
+      → Q.Answer.active b ≡ asked_of s (is_active (view s) h)
   unfolding asked_of is_active is_place place_of view
-  active-found h k q = rw (fine.0, fine.1, voices-count s long, q)
+  active-found h o b q e = rw (fine.0, fine.1, e, q) (ap Q.Answer.active (some-inside (ltb (find_at (has_handle h) (voices_in s.table)) (length (voices_in s.table))) _))
 
   pub voices-found : Q.Answer.voices s.table.count ≡ asked_of s (active_voices (view s))
   unfolding asked_of active_voices view

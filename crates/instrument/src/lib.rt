@@ -3,6 +3,7 @@
 #![tactic(auto)]
 
 ghost use Rattle.std.specs.Prelude.{◌≡◌, true, ◌<◌, ◌≤◌, ◌*◌, ◌==◌, Ok, unwrap_or};
+ghost use Rattle.stream.specs.Pitch.{bent as bent_copy, cut_to as cut_copy};
 ghost use Rattle.design.specs.Accepted.{is_accepted, copies_of};
 ghost use Rattle.model.specs.Types.{Control, Call};
 ghost use Rattle.model.specs.Formed.{frames_fit, block_fits};
@@ -11,6 +12,9 @@ ghost use Rattle.model.specs.Start.{empty_state};
 ghost use Rattle.model.specs.Queries.{is_active, active_voices};
 ghost use Rattle.design.specs.declared.PlayMode.TheVariants.{Mono};
 ghost use Rattle.model.specs.Notes.{mono_off, velocity_of, new_note, mono_on, new_handle_in};
+ghost use Rattle.model.specs.Voices.{with_copies};
+ghost use Rattle.voice.specs.View.{seen};
+ghost use Rattle.voice.specs.Changes.{on_seen};
 ghost use Rattle.instrument.specs.View.{view, counted, numbers_fit, formed as formed_state};
 ghost use Rattle.instrument.specs.Calls.{StartAs, last_handle, barred_in, barred_by, Gives, OnAs, CallAs};
 ghost use Rattle.instrument.specs.Levels.{StartLevels};
@@ -24,7 +28,7 @@ use note::Note;
 use outcome::{Outcome, Refusal};
 use stream::UnisonCopy;
 use table::Table;
-use voice::{CopyChange, Voice, VoiceChange, VoiceTest, new_voice};
+use voice::{Voice, new_voice};
 
 mod mix;
 mod plan;
@@ -237,6 +241,19 @@ fn velocity_of(velocity: f32) -> f32
     float32::clamp(velocity, 0.0, 1.0)
 }
 
+// Every copy of a voice bent, and given a cutoff.
+fn bent(v: Voice, factor: f32) -> Voice
+    ensures { seen result ≡ on_seen (with_copies (bent_copy factor)) (seen v) }
+{
+    v.with_copies(|copy| copy.set_bend(factor))
+}
+
+fn cut_to(v: Voice, cutoff: f32) -> Voice
+    ensures { seen result ≡ on_seen (with_copies (cut_copy cutoff)) (seen v) }
+{
+    v.with_copies(|copy| copy.set_cutoff(cutoff))
+}
+
 impl Instrument {
     // Check 1.
     pub fn well_formed(self) -> bool
@@ -313,11 +330,13 @@ impl Instrument {
         ensures { OnAs self (new_handle_in (Mono legato) (view self)) (mono_on (view self) legato note velocity built) result }
     {
         let with = self.held.with(note);
-        let place = self.table.find_first(VoiceTest::Sounding);
-        if place < self.table.count {
+        let found = self.table.find_first(|v| !v.releasing);
+        if let Some(place) = found {
             let handle = self.table.handle_at(place);
-            let change = VoiceChange::Keep(note, self.design.glide, legato, velocity);
-            let kept = self.table.change_at(place, change);
+            let glide = self.design.glide;
+            let kept = self
+                .table
+                .change_at(place, |v| v.kept(note, glide, legato, velocity));
             self.held = with;
             self.table = kept;
             return Outcome::answered(self, Reply::Kept(handle));
@@ -340,17 +359,20 @@ impl Instrument {
         }
         self.held = rest;
         if rest.count == 0 {
-            let off = self
-                .table
-                .change_all(VoiceChange::OffSounding(self.sustain));
+            let down = self.sustain;
+            let off = self.table.change_all(|v| v.off_sounding(down));
             self.table = off;
             return Outcome::answered(self, Reply::Off(true));
         }
-        let place = self.table.find_first(VoiceTest::Sounding);
-        let aimed = self.table.change_at(
-            place,
-            VoiceChange::AimAt(rest.newest(), self.design.glide),
-        );
+        let found = self.table.find_first(|v| !v.releasing);
+        let Some(place) = found else {
+            return Outcome::answered(self, Reply::Off(true));
+        };
+        let newest = rest.newest();
+        let glide = self.design.glide;
+        let aimed = self
+            .table
+            .change_at(place, |v| v.aimed_at(newest, glide));
         self.table = aimed;
         Outcome::answered(self, Reply::Off(true))
     }
@@ -367,11 +389,12 @@ impl Instrument {
         if let PlayMode::Mono { legato: _ } = mode {
             return self.mono_note_off(note);
         }
-        let place = self.table.find_last(VoiceTest::Plays(note));
-        if self.table.count <= place {
+        let found = self.table.find_last(|v| v.plays(note));
+        let Some(place) = found else {
             return Outcome::answered(self, Reply::Off(false));
-        }
-        let off = self.table.change_at(place, VoiceChange::Off(self.sustain));
+        };
+        let down = self.sustain;
+        let off = self.table.change_at(place, |v| v.off(down));
         self.table = off;
         Outcome::answered(self, Reply::Off(true))
     }
@@ -387,7 +410,7 @@ impl Instrument {
         if down {
             return Outcome::answered(self, Reply::Done);
         }
-        let lifted = self.table.change_all(VoiceChange::Lift);
+        let lifted = self.table.change_all(|v| v.lifted());
         self.table = lifted;
         Outcome::answered(self, Reply::Done)
     }
@@ -400,10 +423,8 @@ impl Instrument {
             return Outcome::refused(self, refusal);
         }
         self.bend = factor;
-        let bent = self
-            .table
-            .change_all(VoiceChange::Copies(CopyChange::Bend(factor)));
-        self.table = bent;
+        let after = self.table.change_all(|v| bent(v, factor));
+        self.table = after;
         Outcome::answered(self, Reply::Done)
     }
 
@@ -416,10 +437,8 @@ impl Instrument {
         }
         let least = float32::max(scale, 0.01);
         self.brightness = least;
-        let cut = self
-            .table
-            .change_all(VoiceChange::Copies(CopyChange::Cutoff(least)));
-        self.table = cut;
+        let after = self.table.change_all(|v| cut_to(v, least));
+        self.table = after;
         Outcome::answered(self, Reply::Done)
     }
 
@@ -430,11 +449,11 @@ impl Instrument {
         if let Err(refusal) = barred(self.well_formed(), self.frames) {
             return Outcome::refused(self, refusal);
         }
-        let place = self.table.find_first(VoiceTest::Handle(handle));
-        if self.table.count <= place {
+        let found = self.table.find_first(|v| v.handle == handle);
+        let Some(place) = found else {
             return Outcome::answered(self, Reply::Released(false));
-        }
-        let after = self.table.change_at(place, VoiceChange::Release);
+        };
+        let after = self.table.change_at(place, |v| v.released());
         self.table = after;
         Outcome::answered(self, Reply::Released(true))
     }
@@ -446,7 +465,7 @@ impl Instrument {
         if let Err(refusal) = barred(self.well_formed(), self.frames) {
             return Outcome::refused(self, refusal);
         }
-        let after = self.table.change_all(VoiceChange::Release);
+        let after = self.table.change_all(|v| v.released());
         self.table = after;
         self.held.count = 0;
         Outcome::answered(self, Reply::Done)
@@ -459,8 +478,8 @@ impl Instrument {
         if !self.well_formed() {
             return Err(Refusal::Malformed);
         }
-        let place = self.table.find_first(VoiceTest::Handle(handle));
-        Ok(place < self.table.count)
+        let found = self.table.find_first(|v| v.handle == handle);
+        Ok(found.is_some())
     }
 
     // How many voices are in the table.
@@ -480,10 +499,10 @@ impl Instrument {
         if !self.well_formed() {
             return Err(Refusal::Malformed);
         }
-        let place = self.table.find_first(VoiceTest::SoundsNote(note));
-        if self.table.count <= place {
+        let found = self.table.find_first(|v| v.sounds_note(note));
+        let Some(place) = found else {
             return Ok(None);
-        }
+        };
         Ok(Some(self.table.handle_at(place)))
     }
 }

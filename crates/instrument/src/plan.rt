@@ -5,12 +5,16 @@ ghost use Rattle.design.specs.Accepted.{modulated as is_modulated};
 ghost use Rattle.envelope.specs.Start.{rate_fits};
 ghost use Rattle.model.specs.Plan.{vibrato_factor, filter_factor, tremolo_gain, applied};
 ghost use Rattle.instrument.specs.View.{view};
+ghost use Rattle.model.specs.Voices.{with_copies};
+ghost use Rattle.voice.specs.View.{seen};
+ghost use Rattle.voice.specs.Changes.{on_seen};
 ghost use Rattle.instrument.specs.Plans.{PlannedAs, plan_fits, step_of, phase_on, wobble_of, StandsFor};
 
 use crate::{Instrument, Reply, barred, copies_fill, frames_fit};
 use design::{InstrumentDesign, Modulation};
 use outcome::{Outcome, Refusal};
-use voice::{CopyChange, VoiceChange};
+use stream::UnisonCopy;
+use voice::Voice;
 
 // The host's factor, where the vibrato has a depth.
 #[tactic(auto, unfolding(model::specs::Plan::vibrato_factor))]
@@ -54,13 +58,20 @@ fn phase_on(phase: f32, rate: f32, step: f32) -> f32
 
 // The cutoff moves only where the filter has a depth.
 #[tactic(auto, unfolding(crate::specs::Plans::wobble_of))]
-fn wobble(m: Modulation, bend: f32, cutoff: f32) -> VoiceChange
-    ensures { result ≡ wobble_of m bend cutoff }
+fn wobble(copy: UnisonCopy, m: Modulation, bend: f32, cutoff: f32) -> UnisonCopy
+    ensures { result ≡ wobble_of m bend cutoff copy }
 {
+    let bent = copy.set_bend(bend);
     if m.filter_octaves > 0.0 {
-        return VoiceChange::Copies(CopyChange::Wobble(bend, cutoff));
+        return bent.set_cutoff(cutoff);
     }
-    VoiceChange::Copies(CopyChange::Bend(bend))
+    bent
+}
+
+fn wobbled(v: Voice, m: Modulation, bend: f32, cutoff: f32) -> Voice
+    ensures { seen result ≡ on_seen (with_copies (wobble_of m bend cutoff)) (seen v) }
+{
+    v.with_copies(|copy| wobble(copy, m, bend, cutoff))
 }
 
 // Whether any LFO of the design counts.
@@ -102,7 +113,7 @@ impl Instrument {
         let m = design.modulation;
         let bend = self.bend * vibrato_factor(m, vibrato);
         let cutoff = self.brightness * filter_factor(m, filter);
-        let changed = self.table.change_all(wobble(m, bend, cutoff));
+        let changed = self.table.change_all(|v| wobbled(v, m, bend, cutoff));
         self.table = changed;
         let step = step_of(frames, design.sample_rate);
         self.vib_phase = phase_on(self.vib_phase, m.vibrato_rate, step);

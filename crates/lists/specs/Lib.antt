@@ -10,3 +10,4 @@ pub mod All
 pub mod Found
 pub mod Parts
 pub mod Lone
+pub mod Changed

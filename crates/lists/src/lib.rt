@@ -3,6 +3,7 @@
 #![tactic(auto)]
 
 ghost use Rattle.std.specs.Prelude.{◌≡◌, ◌*◌, min, eqb};
+ghost use Rattle.lists.specs.Changed.{FirstChanged};
 
 // The smaller of two sizes: a pass never leaves its array.
 pub fn smaller(a: usize, b: usize) -> usize
@@ -16,4 +17,15 @@ pub fn fills(frames: usize, rows: usize, len: usize) -> bool
     ensures { result ≡ eqb (frames * rows) len }
 {
     frames as u128 * rows as u128 == len as u128
+}
+
+// The first n elements, each changed where it stands.
+pub fn change_first<A: Copy, F: Fn(A) -> A>(items: &mut [A], n: usize, change: F)
+    requires { F.IsAlwaysCallable change }
+    ensures { FirstChanged (F.post change) n items.old items.new }
+{
+    let end = smaller(n, items.len());
+    for item in &mut items[..end] {
+        *item = change(*item);
+    }
 }

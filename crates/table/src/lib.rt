@@ -10,12 +10,12 @@ ghost use Rattle.lists.specs.Places.{find_at, last_at};
 ghost use Rattle.model.specs.Types.{no_voice};
 ghost use Rattle.model.specs.Voices.{handle_at, quieter as quieter_of, quietest_sounding, quietest as quietest_of};
 ghost use Rattle.voice.specs.View.{shown, seen};
-ghost use Rattle.voice.specs.Changes.{test_of, voice_changed, on_seen};
-ghost use Rattle.table.specs.View.{seen_in, voices_in, changed_at, Holds};
+ghost use Rattle.voice.specs.Changes.{on_seen, Tells, Makes};
+ghost use Rattle.table.specs.View.{seen_in, voices_in, place_in, changed_at, Holds};
 ghost use Rattle.table.specs.Room.{reached as reached_of, AddedAs};
 
-use lists::smaller;
-use voice::{Voice, VoiceChange, VoiceTest};
+use lists::{change_first, smaller};
+use voice::Voice;
 
 mod check;
 mod mix;
@@ -81,47 +81,35 @@ fn reached(n: usize, most: usize) -> bool
 
 impl Table {
     // How many voices pass the test.
-    pub fn count_of(self, test: VoiceTest) -> usize
-        ensures { result ≡ count (test_of test) (voices_in self) }
+    pub fn count_of<F: Fn(Voice) -> bool>(self, test: F) -> usize
+        requires { F.IsAlwaysCallable test }
+        ensures { (t : _) → Tells (F.post test) t → result ≡ count t (voices_in self) }
     {
         let end = smaller(self.count, 64);
-        let mut found: usize = 0;
-        let mut i: usize = 0;
-        while i < end {
-            found += one_if(self.voices[i].passes(test));
-            i += 1;
-        }
-        found
+        self.voices[..end].iter().filter(|v| test(**v)).count()
     }
 
-    // The place of the first that passes, and how many voices there are where none does.
-    pub fn find_first(self, test: VoiceTest) -> usize
-        ensures { result ≡ find_at (test_of test) (voices_in self) }
+    // The place of the first that passes.
+    pub fn find_first<F: Fn(Voice) -> bool>(self, test: F) -> Option<usize>
+        requires { F.IsAlwaysCallable test }
+        ensures { (t : _) → Tells (F.post test) t → result ≡ place_in (find_at t (voices_in self)) (voices_in self) }
     {
         let end = smaller(self.count, 64);
-        let mut i: usize = 0;
-        while i < end {
-            if self.voices[i].passes(test) {
-                return i;
-            }
-            i += 1;
-        }
-        end
+        self.voices[..end].iter().position(|v| test(*v))
     }
 
     // The place of the last that passes.
-    pub fn find_last(self, test: VoiceTest) -> usize
-        ensures { result ≡ last_at (test_of test) (voices_in self) }
+    pub fn find_last<F: Fn(Voice) -> bool>(self, test: F) -> Option<usize>
+        requires { F.IsAlwaysCallable test }
+        ensures { (t : _) → Tells (F.post test) t → result ≡ place_in (last_at t (voices_in self)) (voices_in self) }
     {
         let end = smaller(self.count, 64);
-        let mut i = end;
-        while 0 < i {
-            i -= 1;
-            if self.voices[i].passes(test) {
-                return i;
+        for i in (0..end).rev() {
+            if test(self.voices[i]) {
+                return Some(i);
             }
         }
-        end
+        None
     }
 
     // The handle at a place, 0 past the voices.
@@ -136,17 +124,16 @@ impl Table {
     }
 
     // The first of the quietest voices that pass a test.
-    fn quietest_by(self, test: VoiceTest) -> usize
-        ensures { result ≡ lowest no_voice quieter_of (test_of test) (voices_in self) }
+    fn quietest_by<F: Fn(Voice) -> bool>(self, test: F) -> usize
+        requires { F.IsAlwaysCallable test }
+        ensures { (t : _) → Tells (F.post test) t → result ≡ lowest no_voice quieter_of t (voices_in self) }
     {
         let end = smaller(self.count, 64);
         let mut best: usize = 0;
-        let mut i: usize = 0;
-        while i < end {
+        for i in 0..end {
             let v = self.voices[i];
             let under = quieter(v, self.voices[best]);
-            best = quietest_next(i, best, v.passes(test), under);
-            i += 1;
+            best = quietest_next(i, best, test(v), under);
         }
         best
     }
@@ -155,37 +142,36 @@ impl Table {
     pub fn quietest_sounding(self) -> usize
         ensures { result ≡ quietest_sounding (voices_in self) }
     {
-        self.quietest_by(VoiceTest::Sounding)
+        self.quietest_by(|v| !v.releasing)
     }
 
     // The quietest among all.
     pub fn quietest(self) -> usize
         ensures { result ≡ quietest_of (voices_in self) }
     {
-        self.quietest_by(VoiceTest::Any)
+        self.quietest_by(|_| true)
     }
 
     // One voice changed; none where there is none at the place.
-    pub fn change_at(mut self, place: usize, change: VoiceChange) -> Table
-        ensures { Holds (changed_at (voice_changed change) place (seen_in self)) result }
+    pub fn change_at<F: Fn(Voice) -> Voice>(mut self, place: usize, change: F) -> Table
+        requires { F.IsAlwaysCallable change }
+        ensures { (g : _) → Makes (F.post change) g → Holds (changed_at g place (seen_in self)) result }
     {
         self.count = smaller(self.count, 64);
         if place < self.count {
-            self.voices[place] = self.voices[place].changed(change);
+            self.voices[place] = change(self.voices[place]);
         }
         self
     }
 
     // Every voice changed.
-    pub fn change_all(mut self, change: VoiceChange) -> Table
-        ensures { Holds (map (on_seen (voice_changed change)) (seen_in self)) result }
+    pub fn change_all<F: Fn(Voice) -> Voice>(mut self, change: F) -> Table
+        requires { F.IsAlwaysCallable change }
+        ensures { (g : _) → Makes (F.post change) g → Holds (map (on_seen g) (seen_in self)) result }
     {
-        self.count = smaller(self.count, 64);
-        let mut i: usize = 0;
-        while i < self.count {
-            self.voices[i] = self.voices[i].changed(change);
-            i += 1;
-        }
+        let count = smaller(self.count, 64);
+        self.count = count;
+        change_first(&mut self.voices, count, change);
         self
     }
 
@@ -210,10 +196,10 @@ impl Table {
         self.count = smaller(self.count, 64);
         let most = max as usize;
         let mut killed: u64 = 0;
-        if reached(self.count_of(VoiceTest::Sounding), most) {
+        if reached(self.count_of(|v| !v.releasing), most) {
             let victim = self.quietest_sounding();
             killed = self.voices[victim].handle;
-            self.voices[victim] = self.voices[victim].changed(VoiceChange::Kill);
+            self.voices[victim] = self.voices[victim].killed();
         }
         let mut taken: u64 = 0;
         if reached(self.count, 2 * most) {

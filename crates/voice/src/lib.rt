@@ -3,17 +3,18 @@
 #![tactic(auto)]
 
 ghost use Rattle.std.specs.Prelude.{◌≡◌, ◌≤◌, length, take};
+ghost use Rattle.stream.specs.declared.UnisonCopy.{UnisonCopy};
 ghost use Rattle.model.specs.Voices.{released_voice, killed_voice, with_sustained, with_copies, aimed_at, struck_again};
 ghost use Rattle.model.specs.Notes.{off_voice, plays as plays_of, kept_voice};
 ghost use Rattle.model.specs.Controls.{lifted_voice};
 ghost use Rattle.model.specs.Queries.{sounds_note};
 ghost use Rattle.voice.specs.View.{shown, seen};
 ghost use Rattle.voice.specs.New.{made_copies, copies_made, made_voice};
-ghost use Rattle.voice.specs.Changes.{off_sounding, copy_changed, voice_changed, test_of, on_seen};
+ghost use Rattle.voice.specs.Changes.{off_sounding, on_seen, MakesCopy};
 
 use design::InstrumentDesign;
 use envelope::EnvGen;
-use lists::smaller;
+use lists::{change_first, smaller};
 use note::Note;
 use stream::UnisonCopy;
 
@@ -34,60 +35,8 @@ pub struct Voice {
     pub sustained: bool,
 }
 
-// What may be made of a copy.
-#[derive(Clone, Copy)]
-pub enum CopyChange {
-    Bend(f32),
-    Cutoff(f32),
-    // The pitch scale to aim at, and the coefficient.
-    Aim(f32, f32),
-    // The bend, then the cutoff.
-    Wobble(f32, f32),
-}
-
-// What may be made of a voice.
-#[derive(Clone, Copy)]
-pub enum VoiceChange {
-    Kill,
-    Release,
-    // The pedal goes up.
-    Lift,
-    // A note-off with the pedal down, or not.
-    Off(bool),
-    // The same where the voice is not releasing.
-    OffSounding(bool),
-    Copies(CopyChange),
-    // The note to aim at, and the coefficient.
-    AimAt(u8, f32),
-    // The voice goes on with a note: note, coefficient, legato, velocity.
-    Keep(u8, f32, bool, f32),
-}
-
-// What may be asked of a voice.
-#[derive(Clone, Copy)]
-pub enum VoiceTest {
-    Any,
-    Sounding,
-    Handle(u64),
-    // Of the note, neither releasing nor sustained.
-    Plays(u8),
-    // Of the note, not releasing.
-    SoundsNote(u8),
-}
-
-fn change_copy(c: UnisonCopy, change: CopyChange) -> UnisonCopy
-    ensures { result ≡ copy_changed change c }
-{
-    match change {
-        CopyChange::Bend(x) => c.set_bend(x),
-        CopyChange::Cutoff(x) => c.set_cutoff(x),
-        CopyChange::Aim(scale, coeff) => c.glide_pitch(scale, coeff),
-        CopyChange::Wobble(bend, cutoff) => c.set_bend(bend).set_cutoff(cutoff),
-    }
-}
-
 impl Voice {
-    fn released(mut self) -> Voice
+    pub fn released(mut self) -> Voice
         ensures { seen result ≡ on_seen released_voice (seen self) }
     {
         let env = self.env.gate_off();
@@ -97,7 +46,7 @@ impl Voice {
     }
 
     // Stolen for a new note.
-    fn killed(mut self) -> Voice
+    pub fn killed(mut self) -> Voice
         ensures { seen result ≡ on_seen killed_voice (seen self) }
     {
         let env = self.env.kill();
@@ -114,7 +63,7 @@ impl Voice {
     }
 
     // A note-off: sustained while the pedal is down, else released.
-    fn off(self, down: bool) -> Voice
+    pub fn off(self, down: bool) -> Voice
         ensures { seen result ≡ on_seen (off_voice down) (seen self) }
     {
         if down {
@@ -125,14 +74,14 @@ impl Voice {
     }
 
     // A voice that is releasing stays as it is.
-    fn off_sounding(self, down: bool) -> Voice
+    pub fn off_sounding(self, down: bool) -> Voice
         ensures { seen result ≡ on_seen (off_sounding down) (seen self) }
     {
         if self.releasing { self } else { self.off(down) }
     }
 
     // The pedal goes up: a sustained voice is released.
-    fn lifted(self) -> Voice
+    pub fn lifted(self) -> Voice
         ensures { seen result ≡ on_seen lifted_voice (seen self) }
     {
         if self.sustained {
@@ -142,25 +91,25 @@ impl Voice {
         }
     }
 
-    fn with_copies(mut self, change: CopyChange) -> Voice
-        ensures { seen result ≡ on_seen (with_copies (copy_changed change)) (seen self) }
+    // Each copy that counts changed.
+    pub fn with_copies<F: Fn(UnisonCopy) -> UnisonCopy>(mut self, change: F) -> Voice
+        requires { F.IsAlwaysCallable change }
+        ensures { (f : UnisonCopy → UnisonCopy) → MakesCopy (F.post change) f
+            → seen result ≡ on_seen (with_copies f) (seen self) }
     {
-        let n = self.copies_shown();
-        let mut j: usize = 0;
-        while j < n {
-            self.copies[j] = change_copy(self.copies[j], change);
-            j += 1;
-        }
+        let count = self.copy_count;
+        change_first(&mut self.copies, count, change);
         self
     }
 
     // Takes the note; the copies glide to its frequency.
-    fn aimed_at(self, note: u8, coeff: f32) -> Voice
+    pub fn aimed_at(self, note: u8, coeff: f32) -> Voice
         ensures { seen result ≡ on_seen (aimed_at coeff note) (seen self) }
     {
         let n = Note(note);
         let hz = n.freq();
-        let mut v = self.with_copies(CopyChange::Aim(hz / self.built_hz, coeff));
+        let scale = hz / self.built_hz;
+        let mut v = self.with_copies(|copy| copy.glide_pitch(scale, coeff));
         v.note = n;
         v
     }
@@ -176,31 +125,14 @@ impl Voice {
     }
 
     // The one voice of a mono instrument goes on with another note.
-    fn kept(self, note: u8, coeff: f32, legato: bool, velocity: f32) -> Voice
+    pub fn kept(self, note: u8, coeff: f32, legato: bool, velocity: f32) -> Voice
         ensures { seen result ≡ on_seen (kept_voice coeff legato note velocity) (seen self) }
     {
         let v = self.aimed_at(note, coeff).with_sustained(false);
         if legato { v } else { v.struck_again(velocity) }
     }
 
-    pub fn changed(self, change: VoiceChange) -> Voice
-        ensures { seen result ≡ on_seen (voice_changed change) (seen self) }
-    {
-        match change {
-            VoiceChange::Kill => self.killed(),
-            VoiceChange::Release => self.released(),
-            VoiceChange::Lift => self.lifted(),
-            VoiceChange::Off(down) => self.off(down),
-            VoiceChange::OffSounding(down) => self.off_sounding(down),
-            VoiceChange::Copies(c) => self.with_copies(c),
-            VoiceChange::AimAt(note, coeff) => self.aimed_at(note, coeff),
-            VoiceChange::Keep(note, coeff, legato, velocity) => {
-                self.kept(note, coeff, legato, velocity)
-            }
-        }
-    }
-
-    fn plays(self, note: u8) -> bool
+    pub fn plays(self, note: u8) -> bool
         ensures { result ≡ plays_of note (shown self) }
     {
         if self.note.0 != note {
@@ -212,25 +144,13 @@ impl Voice {
         !self.sustained
     }
 
-    fn sounds_note(self, note: u8) -> bool
+    pub fn sounds_note(self, note: u8) -> bool
         ensures { result ≡ sounds_note note (shown self) }
     {
         if self.note.0 != note {
             return false;
         }
         !self.releasing
-    }
-
-    pub fn passes(self, test: VoiceTest) -> bool
-        ensures { result ≡ test_of test (shown self) }
-    {
-        match test {
-            VoiceTest::Any => true,
-            VoiceTest::Sounding => !self.releasing,
-            VoiceTest::Handle(h) => self.handle == h,
-            VoiceTest::Plays(note) => self.plays(note),
-            VoiceTest::SoundsNote(note) => self.sounds_note(note),
-        }
     }
 
     // How many copies count.
@@ -256,10 +176,8 @@ fn new_copies(n: u8, width: f32, bend: f32, brightness: f32) -> [UnisonCopy; 8]
 {
     let first = UnisonCopy::new(0, n, width);
     let mut copies = [first; 8];
-    let mut k: u8 = 0;
-    while k < n {
-        copies[k as usize] = UnisonCopy::new(k, n, width).catch_up(bend, brightness);
-        k += 1;
+    for (k, copy) in copies[..n as usize].iter_mut().enumerate() {
+        *copy = UnisonCopy::new(k as u8, n, width).catch_up(bend, brightness);
     }
     copies
 }

@@ -2,6 +2,8 @@ use mathlib.Core.Path.{refl}
 use Rattle.instrument.proofs.Calls.{free-by, barred-call}
 use Rattle.instrument.specs.Calls.{placed_as}
 use Rattle.instrument.proofs.Controls.{all-off-call}
+use borrow.Author.Rules.{rules}
+use Rattle.model.specs.Voices.{released_voice}
 use Rattle.instrument.proofs.Instrument.all_notes_off.Goals as goal
 
 pub returns-in-Err : goal.returns-in-Err
@@ -10,4 +12,5 @@ returns-in-Err c = barred-call _ _ _ _ _ _ refl c.well_formed-2.ensures c.barred
 pub returns : goal.returns
 unfolding placed_as
 returns c =
-    all-off-call _ (free-by _ _ _ c.well_formed-2.ensures c.barred.ensures c.in_default.not-Err) _ _ c.change_all-after.ensures c.answered.ensures
+    let fine = free-by _ _ _ c.well_formed-2.ensures c.barred.ensures c.in_default.not-Err in
+    all-off-call _ fine _ _ (c.change_all-after.ensures released_voice (λ v w p. search rules)) c.answered.ensures

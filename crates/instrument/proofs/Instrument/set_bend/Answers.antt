@@ -2,6 +2,9 @@ use mathlib.Core.Path.{refl}
 use Rattle.instrument.proofs.Calls.{free-by, barred-call}
 use Rattle.instrument.specs.Calls.{tuned_as}
 use Rattle.instrument.proofs.Controls.{bend-call}
+use borrow.Author.Rules.{rules}
+use Rattle.stream.specs.Pitch.{bent, cut_to}
+use Rattle.model.specs.Voices.{with_copies}
 use Rattle.instrument.proofs.Instrument.set_bend.Goals as goal
 
 pub returns-in-Err : goal.returns-in-Err
@@ -10,4 +13,5 @@ returns-in-Err c = barred-call _ _ _ _ _ _ refl c.well_formed-2.ensures c.barred
 pub returns : goal.returns
 unfolding tuned_as
 returns c =
-    bend-call _ (free-by _ _ _ c.well_formed-2.ensures c.barred.ensures c.in_default.not-Err) _ _ _ c.change_all-bent.ensures c.answered.ensures
+    let fine = free-by _ _ _ c.well_formed-2.ensures c.barred.ensures c.in_default.not-Err in
+    bend-call _ fine _ _ _ (c.change_all-after.ensures (with_copies (bent c.args.factor)) (λ v w p. search rules)) c.answered.ensures

@@ -2,6 +2,8 @@ use mathlib.Core.Path.{refl}
 use Rattle.instrument.proofs.Calls.{free-by, barred-call}
 use Rattle.instrument.specs.Calls.{placed_as}
 use Rattle.instrument.proofs.Controls.{pedal-down-call, pedal-up-call}
+use borrow.Author.Rules.{rules}
+use Rattle.model.specs.Controls.{lifted_voice}
 use Rattle.instrument.proofs.Instrument.set_sustain.Goals as goal
 
 pub returns-in-Err : goal.returns-in-Err
@@ -17,4 +19,4 @@ pub returns : goal.returns
 unfolding placed_as
 returns c =
     let fine = free-by _ _ _ c.well_formed-2.ensures c.barred.ensures c.in_default.not-Err in
-    pedal-up-call _ fine _ _ _ c.if-down.false c.change_all-lifted.ensures c.answered-2.ensures
+    pedal-up-call _ fine _ _ _ c.if-down.false (c.change_all-lifted.ensures lifted_voice (λ v w p. search rules)) c.answered-2.ensures

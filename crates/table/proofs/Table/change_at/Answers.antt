@@ -1,13 +1,13 @@
 use Rattle.table.proofs.Edits.{holds-changed, holds-unchanged}
 use Rattle.table.proofs.Sizes.{voices-long}
 use Rattle.table.proofs.Table.change_at.Goals as goal
+use Rattle.table.proofs.Table.change_at.Goals.{then-place-self, else-place-self}
 
-pub returns-then-place-self : goal.returns-then-place-self
-returns-then-place-self c =
+pub returns : goal.returns
+returns g c = λ f m.
     let t = c.args.self in
-    holds-changed t (voices-long t c.well_formed.0) _ c.smaller.ensures _ _ _ c.if-place-self.true c.changed.ensures
-
-pub returns-else-place-self : goal.returns-else-place-self
-returns-else-place-self c =
-    let t = c.args.self in
-    holds-unchanged t (voices-long t c.well_formed.0) _ c.smaller.ensures _ _ c.if-place-self.false
+    let long = voices-long t c.well_formed.0 in
+    elim c.if-place-self.branch [
+      | then-place-self w ↦ rw w.self-is (holds-changed t long _ c.smaller.ensures f _ _ w.if-place-self.true (m _ _ w.change.ensures))
+      | else-place-self w ↦ rw w.self-is (holds-unchanged t long _ c.smaller.ensures f _ w.if-place-self.false)
+    ]

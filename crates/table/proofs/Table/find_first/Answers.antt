@@ -1,24 +1,13 @@
-use mathlib.Core.Path.{◌≡◌, sym, ◌∙◌}
-use Rattle.table.proofs.Searches.{first-here, first-later, first-none}
+use borrow.Author.Rules.{rules}
+use Rattle.std.proofs.lemmas.Iterator.{YieldsList-from_slice}
+use Rattle.std.proofs.lemmas.Iterator.Search.{position_from_yields_List}
+use Rattle.voice.specs.View.{shown}
+use Rattle.table.proofs.Searches.{found}
 use Rattle.table.proofs.Sizes.{voices-long}
-use native.Mathlib.Omega.{arith}
 use Rattle.table.proofs.Table.find_first.Goals as goal
 
-pub loop-i-init : goal.loop-i-init
-loop-i-init c = (omega arith, omega arith)
-
-pub returns-then-passes : goal.returns-then-passes
-returns-then-passes c =
-    let t = c.args.self in
-    first-here t (voices-long t c.well_formed.0) _ c.loop-i.i _ (omega arith) c.passes.ensures c.loop-i.invariant.1 c.if-passes.true
-
-pub loop-i-preserved : goal.loop-i-preserved
-loop-i-preserved c =
-    let t = c.args.self in
-    (omega arith, first-later t (voices-long t c.well_formed.0) _ c.loop-i.i _ (omega arith) c.passes.ensures c.loop-i.invariant.1 c.if-passes.false)
-
 pub returns : goal.returns
-returns c =
+returns g c = λ p d.
     let t = c.args.self in
-    let e : c.loop-i.i ≡ c.smaller-end.result = omega arith in
-    sym e ∙ first-none t (voices-long t c.well_formed.0) _ c.loop-i.i (omega arith) c.loop-i.invariant.1
+    found t (voices-long t c.well_formed.0) p _ c.smaller-end.ensures _
+    (position_from_yields_List (λ v. p (shown v)) _ _ c.position.result c.position.ensures.ran (YieldsList-from_slice _ c.iter.ensures.rest) (λ x b q k. search (rules, d)))
