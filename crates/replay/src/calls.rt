@@ -1,33 +1,49 @@
-// Calls of the instrument with neither curve nor samples, and its queries, by the places in the list of forms.
+// Calls of the instrument with neither curve nor samples, and its queries.
 
-use crate::ask::{ACTIVE, COUNT};
+use crate::ask::{Call, Query};
+use crate::{Session, said};
+use design::InstrumentDesign;
 use instrument::{Answer, Instrument, Outcome};
-use patterns::{Form, byte_of, float_of};
+use patterns::Page;
 
-pub fn called(s: Instrument, form: Form) -> Outcome {
-    let v = form.values;
-    let n = v[0];
-    let k = form.number;
-    // The places of (off), (pedal), (bend), (bright), (release), (alloff) in the list of `ask`; behind it stands (on).
-    match k {
-        5 => s.note_off(byte_of(n)),
-        6 => s.set_sustain(n == 1),
-        7 => s.set_bend(float_of(n)),
-        8 => s.set_brightness(float_of(n)),
-        9 => s.release(n),
-        10 => s.all_notes_off(),
-        _ => s.note_on(byte_of(n), float_of(v[1]), v[2] == 1),
+fn called(s: Instrument, call: Call) -> Outcome {
+    match call {
+        Call::On {
+            note,
+            velocity,
+            built,
+        } => s.note_on(note, velocity, built),
+        Call::Off(note) => s.note_off(note),
+        Call::Pedal(down) => s.set_sustain(down),
+        Call::Bend(factor) => s.set_bend(factor),
+        Call::Brightness(x) => s.set_brightness(x),
+        Call::Release(handle) => s.release(handle),
+        Call::AllOff => s.all_notes_off(),
     }
 }
 
-pub fn asked(s: Instrument, form: Form) -> Answer {
-    let v = form.values;
-    let n = v[0];
-    if form.number == ACTIVE {
-        return s.is_active(n);
+fn asked(s: Instrument, query: Query) -> Answer {
+    match query {
+        Query::Active(handle) => s.is_active(handle),
+        Query::Count => s.active_voices(),
+        Query::Find(note) => s.voice_of(note),
     }
-    if form.number == COUNT {
-        return s.active_voices();
+}
+
+impl Session {
+    pub fn start(&mut self, design: InstrumentDesign, page: &mut Page) {
+        let new = Instrument::new(design);
+        self.instrument = new.state;
+        said::start(page, new.reply);
     }
-    s.voice_of(byte_of(n))
+
+    pub fn call(&mut self, call: Call, page: &mut Page) {
+        let o = called(self.instrument, call);
+        self.instrument = o.state;
+        said::reply(page, o.reply);
+    }
+
+    pub fn query(&self, query: Query, page: &mut Page) {
+        said::answer(page, asked(self.instrument, query));
+    }
 }

@@ -4,132 +4,68 @@ use design::DesignReply;
 use envelope::EnvReply;
 use instrument::{Answer, Reply};
 use midi::Cursor;
-use patterns::{Form, flag};
+use patterns::{Page, bits};
 
-// The places in the list of `say`.
-const UNREAD: usize = 0;
-
-const DONE: usize = 1;
-
-const READY: usize = 2;
-
-const REFUSED: usize = 3;
-
-const STARTED: usize = 4;
-
-const SILENT: usize = 5;
-
-const KEPT: usize = 6;
-
-const OFF: usize = 7;
-
-const RELEASED: usize = 8;
-
-const ACTIVE: usize = 9;
-
-const COUNT: usize = 10;
-
-const FOUND: usize = 11;
-
-const ON: usize = 12;
-
-const PEDAL: usize = 13;
-
-const ALL_OFF: usize = 14;
-
-const BEND: usize = 15;
-
-const OTHER: usize = 16;
-
-const END: usize = 17;
-
-const TOUCHED: usize = 18;
-
-const REFUSED_AT: usize = 19;
-
-pub const TICKED: usize = 20;
-
-pub fn say(out: &mut [u8], at: usize, form: Form) -> usize {
-    patterns::put_form(
-        out,
-        at,
-        b"(unread)\n(done)\n(ready)\n(refused D)\n(started D D D)\n(silent D)\n(kept D)\n(off D)\n(released D)\n(active D)\n(count D)\n(found D)\n(on D W)\n(pedal D)\n(alloff)\n(bend D)\n(other)\n(end D B)\n(touched)\n(refused D D B)\n(ticked X D W W D)\n",
-        form,
-    )
+pub fn refused(page: &mut Page, n: u8) {
+    page.put(b"(refused D)\n", &[u64::from(n)]);
 }
 
-fn form(number: usize, a: u64, b: u64, c: u64) -> Form {
-    Form {
-        number,
-        values: [a, b, c, 0, 0],
-    }
+pub fn done(page: &mut Page) {
+    page.put(b"(done)\n", &[]);
 }
 
-pub fn unread() -> Form {
-    form(UNREAD, 0, 0, 0)
-}
-
-pub fn done() -> Form {
-    form(DONE, 0, 0, 0)
-}
-
-pub fn refused(n: u8) -> Form {
-    form(REFUSED, n as u64, 0, 0)
-}
-
-pub fn touched() -> Form {
-    form(TOUCHED, 0, 0, 0)
-}
-
-pub fn of_start(reply: DesignReply) -> Form {
+pub fn start(page: &mut Page, reply: DesignReply) {
     match reply {
-        DesignReply::Accepted => form(READY, 0, 0, 0),
-        DesignReply::Refused(n) => refused(n),
+        DesignReply::Accepted => page.put(b"(ready)\n", &[]),
+        DesignReply::Refused(n) => refused(page, n),
     }
 }
 
-pub fn of_env(reply: EnvReply) -> Form {
+pub fn env(page: &mut Page, reply: EnvReply) {
     match reply {
-        EnvReply::Ready => form(READY, 0, 0, 0),
-        EnvReply::Refused(n) => refused(n),
+        EnvReply::Ready => page.put(b"(ready)\n", &[]),
+        EnvReply::Refused(n) => refused(page, n),
     }
 }
 
-pub fn of_reply(reply: Reply) -> Form {
+pub fn reply(page: &mut Page, reply: Reply) {
     match reply {
-        Reply::Started(handle, killed, taken) => form(STARTED, handle, killed, taken),
-        Reply::Silent(handle) => form(SILENT, handle, 0, 0),
-        Reply::Kept(handle) => form(KEPT, handle, 0, 0),
-        Reply::Off(found) => form(OFF, flag(found), 0, 0),
-        Reply::Done => done(),
-        Reply::Released(found) => form(RELEASED, flag(found), 0, 0),
-        Reply::Planned => done(),
-        Reply::Refused(n) => refused(n),
+        Reply::Started(handle, killed, taken) => {
+            page.put(b"(started D D D)\n", &[handle, killed, taken])
+        }
+        Reply::Silent(handle) => page.put(b"(silent D)\n", &[handle]),
+        Reply::Kept(handle) => page.put(b"(kept D)\n", &[handle]),
+        Reply::Off(found) => page.put(b"(off D)\n", &[u64::from(found)]),
+        Reply::Released(found) => page.put(b"(released D)\n", &[u64::from(found)]),
+        Reply::Done | Reply::Planned => done(page),
+        Reply::Refused(n) => refused(page, n),
     }
 }
 
-pub fn of_answer(answer: Answer) -> Form {
+pub fn answer(page: &mut Page, answer: Answer) {
     match answer {
-        Answer::Active(found) => form(ACTIVE, flag(found), 0, 0),
-        Answer::Voices(n) => form(COUNT, n as u64, 0, 0),
-        Answer::Handle(_) => form(FOUND, 1, 0, 0),
-        Answer::NoHandle => form(FOUND, 0, 0, 0),
-        Answer::Refused(n) => refused(n),
+        Answer::Active(found) => page.put(b"(active D)\n", &[u64::from(found)]),
+        Answer::Voices(n) => page.put(b"(count D)\n", &[n as u64]),
+        Answer::Handle(_) => page.put(b"(found D)\n", &[1]),
+        Answer::NoHandle => page.put(b"(found D)\n", &[0]),
+        Answer::Refused(n) => refused(page, n),
     }
 }
 
 // Where the reader ends it prints its cursor.
-pub fn of_step(answer: midi::Answer, cursor: Cursor) -> Form {
+pub fn step(page: &mut Page, answer: midi::Answer, cursor: Cursor) {
     let place = cursor.place as u64;
-    let status = cursor.status as u64;
+    let status = u64::from(cursor.status);
     match answer {
-        midi::Answer::On(note, velocity) => form(ON, note as u64, patterns::bits(velocity), 0),
-        midi::Answer::Off(note) => form(OFF, note as u64, 0, 0),
-        midi::Answer::Pedal(down) => form(PEDAL, flag(down), 0, 0),
-        midi::Answer::AllOff => form(ALL_OFF, 0, 0, 0),
-        midi::Answer::Bend(value) => form(BEND, value as u64, 0, 0),
-        midi::Answer::Other => form(OTHER, 0, 0, 0),
-        midi::Answer::End => form(END, place, status, 0),
-        midi::Answer::Refused(n) => form(REFUSED_AT, n as u64, place, status),
+        midi::Answer::On(note, velocity) => {
+            page.put(b"(on D W)\n", &[u64::from(note), bits(velocity)])
+        }
+        midi::Answer::Off(note) => page.put(b"(off D)\n", &[u64::from(note)]),
+        midi::Answer::Pedal(down) => page.put(b"(pedal D)\n", &[u64::from(down)]),
+        midi::Answer::AllOff => page.put(b"(alloff)\n", &[]),
+        midi::Answer::Bend(value) => page.put(b"(bend D)\n", &[u64::from(value)]),
+        midi::Answer::Other => page.put(b"(other)\n", &[]),
+        midi::Answer::End => page.put(b"(end D B)\n", &[place, status]),
+        midi::Answer::Refused(n) => page.put(b"(refused D D B)\n", &[u64::from(n), place, status]),
     }
 }
