@@ -1,110 +1,223 @@
-// What a line asks for.
+// What a line asks for. A design, an `on` and `(voices)` are read by `forms`, every other line by its pattern here.
 
-use design::{Adsr, InstrumentDesign, Modulation, PlayMode};
-use forms::DesignForm;
-use patterns::{Form, float_of, word_of};
+use design::InstrumentDesign;
+use forms::Form;
+use midi::Cursor;
+use patterns::sums::Source;
+use patterns::{byte_of, fits, fits_one, float_of, word_of};
 
-// The places in the list of `other`: calls of the envelope below `ENVS`, calls of the instrument from there to `PLAN`.
-pub const ENVS: usize = 5;
+// Calls of the envelope that stands by itself.
+#[derive(Clone, Copy)]
+pub enum EnvCall {
+    New {
+        rate: u32,
+        a: f32,
+        d: f32,
+        s: f32,
+        r: f32,
+    },
+    On,
+    Off,
+    Kill,
+    Ticks(u32),
+}
 
-pub const PLAN: usize = 11;
+// Calls of the instrument with neither curve nor samples.
+#[derive(Clone, Copy)]
+pub enum Call {
+    On {
+        note: u8,
+        velocity: f32,
+        built: bool,
+    },
+    Off(u8),
+    Pedal(bool),
+    Bend(f32),
+    Brightness(f32),
+    Release(u64),
+    AllOff,
+}
 
-pub const MIX: usize = 12;
+#[derive(Clone, Copy)]
+pub enum Query {
+    Active(u64),
+    Count,
+    Find(u8),
+}
 
-pub const MIDI: usize = 13;
+// How much memory a block is lent: what it wants, one place more, or one fewer.
+#[derive(Clone, Copy)]
+pub enum Lend {
+    Exact,
+    More,
+    Fewer,
+}
 
-pub const ACTIVE: usize = 14;
+#[derive(Clone, Copy)]
+pub struct Plan {
+    pub frames: usize,
+    pub lend: Lend,
+    pub vibrato: f32,
+    pub filter: f32,
+    pub sine: f32,
+}
 
-pub const COUNT: usize = 15;
+#[derive(Clone, Copy)]
+pub struct Mix {
+    pub source: Source,
+    pub seed: u32,
+    pub samples: Lend,
+    pub stereo: Lend,
+}
 
-pub const COPIES: usize = 17;
+// What is shown of a state: the table, every copy of every voice, or all that stands beside the table.
+#[derive(Clone, Copy)]
+pub enum Part {
+    Voices,
+    Copies,
+    State,
+}
 
-pub const STATE: usize = 18;
-// Behind the list: no form, and those that `forms` reads.
-pub const NONE: usize = 19;
+#[derive(Clone, Copy)]
+pub enum Request {
+    Start(InstrumentDesign),
+    Env(EnvCall),
+    Call(Call),
+    Query(Query),
+    Plan(Plan),
+    Mix(Mix),
+    // The steps over the line's last bytes, so many.
+    Midi(Cursor, usize),
+    Show(Part),
+}
 
-pub const VOICES: usize = 20;
-
-pub const ON: usize = 21;
-
-pub const DESIGN: usize = 22;
-
-fn bare(number: usize) -> Form {
-    Form {
-        number,
-        values: [0; 5],
+impl From<u64> for Lend {
+    fn from(n: u64) -> Lend {
+        match n {
+            0 => Lend::Exact,
+            1 => Lend::More,
+            _ => Lend::Fewer,
+        }
     }
 }
 
-// `W` is a float, `B` a status, `S` the bytes of a stream, and any other letter a decimal.
-fn other(line: &[u8]) -> Form {
-    if 256 < line.len() {
-        return bare(NONE);
+fn env_call_of(line: &[u8]) -> Option<EnvCall> {
+    match line {
+        b"(gate on)" => return Some(EnvCall::On),
+        b"(gate off)" => return Some(EnvCall::Off),
+        b"(gate kill)" => return Some(EnvCall::Kill),
+        _ => {}
     }
-    patterns::read(
-        line,
-        b"(env D W W W W)\n(gate on)\n(gate off)\n(gate kill)\n(tick D)\n(off N)\n(pedal F)\n(bend W)\n(bright W)\n(release H)\n(alloff)\n(plan D T W W W)\n(mix T D T T)\n(midi D B S)\n(active H)\n(count)\n(find N)\n(copies)\n(state)\n",
-    )
-}
-
-pub fn read(line: &[u8]) -> Form {
-    let form = forms::read(line);
-    match form {
-        forms::Form::Design(_) => bare(DESIGN),
-        forms::Form::On(f) => Form {
-            number: ON,
-            values: [f.note, f.velocity, f.built, 0, 0],
-        },
-        forms::Form::Voices => bare(VOICES),
-        forms::Form::Unread => other(line),
+    if let Some(n) = fits_one(line, b"(tick D)") {
+        return Some(EnvCall::Ticks(word_of(n)));
     }
-}
-
-fn mode_of(n: u64) -> PlayMode {
-    if n == 0 {
-        return PlayMode::Poly;
-    }
-    PlayMode::Mono { legato: n == 2 }
-}
-
-fn modulation_of(f: DesignForm) -> Modulation {
-    Modulation {
-        vibrato_rate: float_of(f.vibrato_rate),
-        vibrato_cents: float_of(f.vibrato_cents),
-        tremolo_rate: float_of(f.tremolo_rate),
-        tremolo_depth: float_of(f.tremolo_depth),
-        filter_rate: float_of(f.filter_rate),
-        filter_octaves: float_of(f.filter_octaves),
-    }
-}
-
-fn amp_of(a: u64, d: u64, s: u64, r: u64) -> Adsr {
-    Adsr {
+    let [rate, a, d, s, r] = fits::<5>(line, b"(env D W W W W)")?;
+    Some(EnvCall::New {
+        rate: word_of(rate),
         a: float_of(a),
         d: float_of(d),
         s: float_of(s),
         r: float_of(r),
-    }
+    })
 }
 
-fn design_of(f: DesignForm) -> InstrumentDesign {
-    InstrumentDesign {
-        sample_rate: word_of(f.rate),
-        max_voices: word_of(f.max),
-        mode: mode_of(f.mode),
-        unison: word_of(f.unison),
-        unison_width: float_of(f.width),
-        amp: amp_of(f.a, f.d, f.s, f.r),
-        glide: float_of(f.glide),
-        modulation: modulation_of(f),
+fn call_of(line: &[u8]) -> Option<Call> {
+    if line == b"(alloff)".as_slice() {
+        return Some(Call::AllOff);
     }
+    if let Some(note) = fits_one(line, b"(off N)") {
+        return Some(Call::Off(byte_of(note)));
+    }
+    if let Some(down) = fits_one(line, b"(pedal F)") {
+        return Some(Call::Pedal(down == 1));
+    }
+    if let Some(factor) = fits_one(line, b"(bend W)") {
+        return Some(Call::Bend(float_of(factor)));
+    }
+    if let Some(x) = fits_one(line, b"(bright W)") {
+        return Some(Call::Brightness(float_of(x)));
+    }
+    let handle = fits_one(line, b"(release H)")?;
+    Some(Call::Release(handle))
 }
 
-// The design of a line that is one; of another line, one that is refused.
-pub fn design(line: &[u8]) -> InstrumentDesign {
-    let form = forms::read(line);
-    if let forms::Form::Design(f) = form {
-        return design_of(f);
+fn query_of(line: &[u8]) -> Option<Query> {
+    if line == b"(count)".as_slice() {
+        return Some(Query::Count);
     }
-    design::zero_design()
+    if let Some(handle) = fits_one(line, b"(active H)") {
+        return Some(Query::Active(handle));
+    }
+    let note = fits_one(line, b"(find N)")?;
+    Some(Query::Find(byte_of(note)))
+}
+
+fn plan_of(line: &[u8]) -> Option<Plan> {
+    let [frames, lend, vibrato, filter, sine] = fits::<5>(line, b"(plan D T W W W)")?;
+    Some(Plan {
+        frames: frames as usize,
+        lend: Lend::from(lend),
+        vibrato: float_of(vibrato),
+        filter: float_of(filter),
+        sine: float_of(sine),
+    })
+}
+
+fn mix_of(line: &[u8]) -> Option<Mix> {
+    let [source, seed, samples, stereo] = fits::<4>(line, b"(mix T D T T)")?;
+    Some(Mix {
+        source: Source::from(source),
+        seed: word_of(seed),
+        samples: Lend::from(samples),
+        stereo: Lend::from(stereo),
+    })
+}
+
+fn midi_of(line: &[u8]) -> Option<Request> {
+    let [place, status, count] = fits::<3>(line, b"(midi D B S)")?;
+    let cursor = Cursor {
+        place: place as usize,
+        status: byte_of(status),
+    };
+    Some(Request::Midi(cursor, count as usize))
+}
+
+fn other(line: &[u8]) -> Option<Request> {
+    match line {
+        b"(copies)" => return Some(Request::Show(Part::Copies)),
+        b"(state)" => return Some(Request::Show(Part::State)),
+        _ => {}
+    }
+    if let Some(c) = env_call_of(line) {
+        return Some(Request::Env(c));
+    }
+    if let Some(c) = call_of(line) {
+        return Some(Request::Call(c));
+    }
+    if let Some(q) = query_of(line) {
+        return Some(Request::Query(q));
+    }
+    if let Some(p) = plan_of(line) {
+        return Some(Request::Plan(p));
+    }
+    if let Some(m) = mix_of(line) {
+        return Some(Request::Mix(m));
+    }
+    midi_of(line)
+}
+
+pub fn read(line: &[u8]) -> Option<Request> {
+    if 256 < line.len() {
+        return None;
+    }
+    match forms::read(line) {
+        Some(Form::Design(f)) => Some(Request::Start(f.design())),
+        Some(Form::On(f)) => Some(Request::Call(Call::On {
+            note: f.note,
+            velocity: float32::from_bits(f.velocity),
+            built: f.built,
+        })),
+        Some(Form::Voices) => Some(Request::Show(Part::Voices)),
+        None => other(line),
+    }
 }

@@ -2,11 +2,12 @@
 
 ghost use Rattle.std.specs.Prelude.{◌≤◌};
 
-use crate::play::Played;
-use crate::said;
-use instrument::{Instrument, MixReply, Reply};
-use patterns::{Form, byte_of, float_of, put, sums, word_of};
-use text::put_literal;
+use crate::ask::{Lend, Mix, Plan};
+use crate::{Session, said};
+use instrument::Instrument;
+use lists::smaller;
+use outcome::Refusal;
+use patterns::{Page, bits, sums};
 
 // All copies of so many voices, 0 beyond the size of a table.
 fn rows(voices: usize, copies: u32) -> usize
@@ -32,205 +33,92 @@ fn wanted(frames: usize, rows: usize) -> usize
     frames * rows
 }
 
-fn wanted_by(s: Instrument, frames: usize) -> usize
+fn wanted_by(s: &Instrument, frames: usize) -> usize
     ensures { result ≤ 524_288 }
 {
-    let design = s.design;
-    wanted(frames, rows(s.table.count, design.copies()))
+    wanted(frames, rows(s.table.count, s.design.copies()))
 }
 
-// How many numbers are lent where so many are wanted.
-fn lent(wanted: usize, lend: u64) -> usize
+// How many numbers are lent where so many are wanted. One fewer than none is one.
+fn lent(wanted: usize, lend: Lend) -> usize
     requires { wanted ≤ 524_288 }
 {
-    if lend == 0 {
-        return wanted;
+    match lend {
+        Lend::Exact => wanted,
+        Lend::Fewer if 0 < wanted => wanted - 1,
+        Lend::More | Lend::Fewer => wanted + 1,
     }
-    if lend == 1 {
-        return wanted + 1;
-    }
-    if wanted == 0 {
-        return 1;
-    }
-    wanted - 1
 }
 
 // A refusal, and a line more where a lent place lost its mark.
-fn refusal(out: &mut [u8], at: usize, number: u8, places: &[f32]) -> usize {
-    let next = said::say(out, at, said::refused(number));
-    if sums::is_marked(places) {
-        return next;
-    }
-    said::say(out, next, said::touched())
-}
-
-fn each_number(out: &mut [u8], at: usize, xs: &[f32]) -> usize {
-    let mut next = at;
-    let mut i: usize = 0;
-    while i < xs.len() {
-        next = patterns::put_item(out, next, b" W", i, patterns::bits(xs[i]));
-        i += 1;
-    }
-    next
-}
-
-// The numbers of a block, or their checksum.
-fn block(out: &mut [u8], at: usize, xs: &[f32], numbers: bool) -> usize {
-    if !numbers {
-        return put(out, at, b" X", [sums::sum(xs), 0, 0, 0, 0]);
-    }
-    let a = put_literal(out, at, b" (");
-    let b = each_number(out, a, xs);
-    put_literal(out, b, b")")
-}
-
-fn planned(out: &mut [u8], at: usize, curve: &[f32], numbers: bool) -> usize {
-    let a = put(out, at, b"(planned D", [curve.len() as u64, 0, 0, 0, 0]);
-    let b = block(out, a, curve, numbers);
-    put_literal(out, b, b")\n")
-}
-
-fn plan_reply(out: &mut [u8], at: usize, said: Reply, curve: &[f32], numbers: bool) -> usize {
-    match said {
-        Reply::Planned => planned(out, at, curve, numbers),
-        Reply::Refused(n) => refusal(out, at, n, curve),
-        _ => at,
+fn refused(page: &mut Page, refusal: Refusal, places: &[f32]) {
+    said::refused(page, refusal);
+    if !sums::is_marked(places) {
+        page.put(b"(touched)\n", &[]);
     }
 }
 
-fn plan_on(
-    s: Instrument,
-    form: Form,
-    numbers: bool,
-    curve: &mut [f32],
-    out: &mut [u8],
-    at: usize,
-) -> Played {
-    let v = form.values;
-    sums::mark(curve);
-    let o = s.plan(
-        v[0] as usize,
-        float_of(v[2]),
-        float_of(v[3]),
-        float_of(v[4]),
-        curve,
-    );
-    let state = o.state;
-    let said = o.reply;
-    Played {
-        state,
-        at: plan_reply(out, at, said, curve, numbers),
-    }
-}
-
-// Nothing is done where `curve` has not the room that the block wants.
-pub fn plan(
-    s: Instrument,
-    form: Form,
-    numbers: bool,
-    curve: &mut [f32],
-    out: &mut [u8],
-    at: usize,
-) -> Played {
-    let v = form.values;
-    let n = lent(wanted_by(s, v[0] as usize), v[1]);
-    if curve.len() < n {
-        return Played { state: s, at };
-    }
-    plan_on(s, form, numbers, &mut curve[..n], out, at)
-}
-
-fn ended_at(ended: [u64; 64], i: usize) -> u64 {
-    if i < 64 { ended[i] } else { 0 }
-}
-
-fn each_ended(out: &mut [u8], at: usize, ended: [u64; 64], n: usize) -> usize {
-    let mut next = at;
-    let mut i: usize = 0;
-    while i < n {
-        next = patterns::put_item(out, next, b" D", i, ended_at(ended, i));
-        i += 1;
-    }
-    next
-}
-
-fn mixed(out: &mut [u8], at: usize, stereo: &[f32], numbers: bool) -> usize {
-    let frames = stereo.len() / 2;
-    let next = put(out, at, b"(mixed D", [frames as u64, 0, 0, 0, 0]);
-    block(out, next, stereo, numbers)
-}
-
-fn report(out: &mut [u8], at: usize, ended: [u64; 64], n: usize) -> usize {
-    let a = put_literal(out, at, b" (");
-    let b = each_ended(out, a, ended, n);
-    put_literal(out, b, b"))\n")
-}
-
-fn mix_reply(
-    out: &mut [u8],
-    at: usize,
-    said: MixReply,
-    ended: [u64; 64],
-    stereo: &[f32],
-    numbers: bool,
-) -> usize {
-    match said {
-        MixReply::Mixed(n) => {
-            let next = mixed(out, at, stereo, numbers);
-            report(out, next, ended, n)
+impl Session {
+    // The numbers of a block, or their checksum.
+    fn block(&self, page: &mut Page, xs: &[f32]) {
+        if self.numbers {
+            page.put_list(b'W', xs, |x| bits(*x));
+        } else {
+            page.put(b" X", &[sums::sum(xs)]);
         }
-        MixReply::Refused(n) => refusal(out, at, n, stereo),
     }
-}
 
-fn mix_on(
-    s: Instrument,
-    form: Form,
-    numbers: bool,
-    samples: &mut [f32],
-    stereo: &mut [f32],
-    out: &mut [u8],
-    at: usize,
-) -> Played {
-    let v = form.values;
-    sums::fill(samples, byte_of(v[0]), word_of(v[1]));
-    sums::mark(stereo);
-    let o = s.mix(samples, stereo);
-    let state = o.state;
-    let said = o.reply;
-    let ended = o.ended;
-    Played {
-        state,
-        at: mix_reply(out, at, said, ended, stereo, numbers),
+    fn planned(&self, page: &mut Page, curve: &[f32]) {
+        page.put(b"(planned D", &[curve.len() as u64]);
+        self.block(page, curve);
+        page.put(b")\n", &[]);
     }
-}
 
-// Nothing is done where the lent memory has not the room that the block wants.
-pub fn mix(
-    s: Instrument,
-    form: Form,
-    numbers: bool,
-    samples: &mut [f32],
-    stereo: &mut [f32],
-    out: &mut [u8],
-    at: usize,
-) -> Played {
-    let v = form.values;
-    let n = lent(wanted_by(s, s.frames), v[2]);
-    let k = lent(wanted(s.frames, 2), v[3]);
-    if samples.len() < n {
-        return Played { state: s, at };
+    // Nothing is done where `curve` has not the room that the block wants.
+    pub fn plan(&mut self, p: Plan, curve: &mut [f32], page: &mut Page) {
+        let n = lent(wanted_by(&self.instrument, p.frames), p.lend);
+        let Some(curve) = curve.get_mut(..n) else {
+            return;
+        };
+        sums::mark(curve);
+        let o = self
+            .instrument
+            .plan(p.frames, p.vibrato, p.filter, p.sine, curve);
+        self.instrument = o.state;
+        match o.reply {
+            Ok(_) => self.planned(page, curve),
+            Err(refusal) => refused(page, refusal, curve),
+        }
     }
-    if stereo.len() < k {
-        return Played { state: s, at };
+
+    fn mixed(&self, page: &mut Page, stereo: &[f32], ended: &[u64]) {
+        page.put(b"(mixed D", &[stereo.len() as u64 / 2]);
+        self.block(page, stereo);
+        page.put_list(b'D', ended, |handle| *handle);
+        page.put(b")\n", &[]);
     }
-    mix_on(
-        s,
-        form,
-        numbers,
-        &mut samples[..n],
-        &mut stereo[..k],
-        out,
-        at,
-    )
+
+    // Nothing is done where the lent memory has not the room that the block wants.
+    pub fn mix(&mut self, m: Mix, samples: &mut [f32], stereo: &mut [f32], page: &mut Page) {
+        let frames = self.instrument.frames;
+        let n = lent(wanted_by(&self.instrument, frames), m.samples);
+        let k = lent(wanted(frames, 2), m.stereo);
+        let Some(samples) = samples.get_mut(..n) else {
+            return;
+        };
+        let Some(stereo) = stereo.get_mut(..k) else {
+            return;
+        };
+        sums::fill(samples, m.source, m.seed);
+        sums::mark(stereo);
+        let o = self.instrument.mix(samples, stereo);
+        self.instrument = o.state;
+        match o.reply {
+            Ok(report) => {
+                let ended = &report.ended[..smaller(report.count, 64)];
+                self.mixed(page, stereo, ended)
+            }
+            Err(refusal) => refused(page, refusal, stereo),
+        }
+    }
 }

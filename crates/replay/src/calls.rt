@@ -1,33 +1,54 @@
-// Calls of the instrument with neither curve nor samples, and its queries, by the places in the list of forms.
+// Calls of the instrument with neither curve nor samples, and its queries.
 
-use crate::ask::{ACTIVE, COUNT};
-use instrument::{Answer, Instrument, Outcome};
-use patterns::{Form, byte_of, float_of};
+use crate::ask::{Call, Query};
+use crate::{Session, said};
+use design::InstrumentDesign;
+use instrument::{Instrument, Reply};
+use outcome::Outcome;
+use patterns::Page;
 
-pub fn called(s: Instrument, form: Form) -> Outcome {
-    let v = form.values;
-    let n = v[0];
-    let k = form.number;
-    // The places of (off), (pedal), (bend), (bright), (release), (alloff) in the list of `ask`; behind it stands (on).
-    match k {
-        5 => s.note_off(byte_of(n)),
-        6 => s.set_sustain(n == 1),
-        7 => s.set_bend(float_of(n)),
-        8 => s.set_brightness(float_of(n)),
-        9 => s.release(n),
-        10 => s.all_notes_off(),
-        _ => s.note_on(byte_of(n), float_of(v[1]), v[2] == 1),
+fn called(s: Instrument, call: Call) -> Outcome<Instrument, Reply> {
+    match call {
+        Call::On {
+            note,
+            velocity,
+            built,
+        } => s.note_on(note, velocity, built),
+        Call::Off(note) => s.note_off(note),
+        Call::Pedal(down) => s.set_sustain(down),
+        Call::Bend(factor) => s.set_bend(factor),
+        Call::Brightness(x) => s.set_brightness(x),
+        Call::Release(handle) => s.release(handle),
+        Call::AllOff => s.all_notes_off(),
     }
 }
 
-pub fn asked(s: Instrument, form: Form) -> Answer {
-    let v = form.values;
-    let n = v[0];
-    if form.number == ACTIVE {
-        return s.is_active(n);
+impl Session {
+    pub fn start(&mut self, design: InstrumentDesign, page: &mut Page) {
+        let new = Instrument::new(design);
+        self.instrument = new.state;
+        said::start(page, new.reply);
     }
-    if form.number == COUNT {
-        return s.active_voices();
+
+    pub fn call(&mut self, call: Call, page: &mut Page) {
+        let o = called(self.instrument, call);
+        self.instrument = o.state;
+        said::reply(page, o.reply);
     }
-    s.voice_of(byte_of(n))
+
+    pub fn query(&self, query: Query, page: &mut Page) {
+        let s = self.instrument;
+        match query {
+            Query::Active(handle) => {
+                said::answer(page, b"(active D)\n", s.is_active(handle).map(u64::from))
+            }
+            Query::Count => {
+                said::answer(page, b"(count D)\n", s.active_voices().map(|n| n as u64))
+            }
+            Query::Find(note) => {
+                let found = s.voice_of(note).map(|handle| u64::from(handle.is_some()));
+                said::answer(page, b"(found D)\n", found)
+            }
+        }
+    }
 }

@@ -1,21 +1,18 @@
-// The replay format: a line and a session in, the printed bytes and the next session out.
-// A design, an `on` and `(voices)` are read by `forms`, every other line by the list of forms in `ask`; every reply is the
+// The replay format: a line and a session in, the printed bytes and the next session out. Every reply is the
 // instrument's, the envelope's or the reader's own.
 
 #![tactic(auto)]
 
-use ask::ENVS;
+use ask::{Part, Request};
 use envelope::EnvGen;
 use instrument::Instrument;
-use play::Played;
-use ticks::Gated;
+use outcome::Refusal;
+use patterns::Page;
 
 mod ask;
 mod blocks;
 mod calls;
-mod play;
 mod said;
-mod show;
 mod steps;
 mod ticks;
 
@@ -27,60 +24,52 @@ pub struct Session {
     pub numbers: bool,
 }
 
-// The next session, and the place behind what was printed.
-#[derive(Clone, Copy)]
-pub struct Answered {
-    pub session: Session,
-    pub at: usize,
-}
-
 impl Session {
     // An instrument and an envelope of refused starts.
     pub fn new() -> Session {
-        let new = Instrument::new(design::zero_design());
-        let instrument = new.state;
-        let made = EnvGen::new(0.0, 0.0, 0.0, 0.0, 0);
-        let env = made.state;
         Session {
-            instrument,
-            env,
+            instrument: Instrument::new(design::zero_design()).state,
+            env: EnvGen::default(),
             numbers: false,
         }
     }
 
-    fn played(mut self, p: Played) -> Answered {
-        let state = p.state;
-        self.instrument = state;
-        Answered {
-            session: self,
-            at: p.at,
+    // A state that is not well formed prints nothing of itself.
+    fn show(&self, part: Part, page: &mut Page) {
+        let s = &self.instrument;
+        if !s.well_formed() {
+            said::refused(page, Refusal::Malformed);
+            return;
+        }
+        match part {
+            Part::Voices => state_text::voices(page, s),
+            Part::Copies => state_text::every_copy(page, s),
+            Part::State => state_text::state(page, s),
         }
     }
 
-    fn gated(mut self, g: Gated) -> Answered {
-        let env = g.env;
-        self.env = env;
-        Answered {
-            session: self,
-            at: g.at,
-        }
-    }
-
-    // Prints the answer to a line into `out` from `at` on. One line prints at most 34,761 bytes, unless it prints
-    // numbers; what finds no room is left out. A block wants at most 524,289 samples and 2,049 places of stereo.
+    // Prints the answer to a line. One line prints at most 34,761 bytes, unless it prints numbers; what finds no room
+    // is left out. A block wants at most 524,289 samples and 2,049 places of stereo.
     pub fn answer(
-        self,
+        &mut self,
         line: &[u8],
         samples: &mut [f32],
         stereo: &mut [f32],
-        out: &mut [u8],
-        at: usize,
-    ) -> Answered {
-        let form = ask::read(line);
-        if form.number < ENVS {
-            return self.gated(ticks::gate(self.env, form, out, at));
+        page: &mut Page,
+    ) {
+        let Some(request) = ask::read(line) else {
+            page.put(b"(unread)\n", &[]);
+            return;
+        };
+        match request {
+            Request::Start(design) => self.start(design, page),
+            Request::Env(call) => self.env_call(call, page),
+            Request::Call(call) => self.call(call, page),
+            Request::Query(query) => self.query(query, page),
+            Request::Plan(plan) => self.plan(plan, samples, page),
+            Request::Mix(mix) => self.mix(mix, samples, stereo, page),
+            Request::Midi(from, count) => steps::steps(page, line, from, count),
+            Request::Show(part) => self.show(part, page),
         }
-        let s = self.instrument;
-        self.played(play::play(s, line, form, self.numbers, samples, stereo, out, at))
     }
 }

@@ -1,134 +1,80 @@
 // What is printed of a reply.
 
-use instrument::{Answer, Reply};
+use instrument::Reply;
 use midi::{Cursor, Event};
 use outcome::{Outcome, Refusal};
-use patterns::{Form, flag};
+use patterns::{Page, bits};
 
-// The places in the list of `say`.
-const UNREAD: usize = 0;
-
-const DONE: usize = 1;
-
-const READY: usize = 2;
-
-const REFUSED: usize = 3;
-
-const STARTED: usize = 4;
-
-const SILENT: usize = 5;
-
-const KEPT: usize = 6;
-
-const OFF: usize = 7;
-
-const RELEASED: usize = 8;
-
-const ACTIVE: usize = 9;
-
-const COUNT: usize = 10;
-
-const FOUND: usize = 11;
-
-const ON: usize = 12;
-
-const PEDAL: usize = 13;
-
-const ALL_OFF: usize = 14;
-
-const BEND: usize = 15;
-
-const OTHER: usize = 16;
-
-const END: usize = 17;
-
-const TOUCHED: usize = 18;
-
-const REFUSED_AT: usize = 19;
-
-pub const TICKED: usize = 20;
-
-pub fn say(out: &mut [u8], at: usize, form: Form) -> usize {
-    patterns::put_form(
-        out,
-        at,
-        b"(unread)\n(done)\n(ready)\n(refused D)\n(started D D D)\n(silent D)\n(kept D)\n(off D)\n(released D)\n(active D)\n(count D)\n(found D)\n(on D W)\n(pedal D)\n(alloff)\n(bend D)\n(other)\n(end D B)\n(touched)\n(refused D D B)\n(ticked X D W W D)\n",
-        form,
-    )
+pub fn refused(page: &mut Page, refusal: Refusal) {
+    page.put(b"(refused D)\n", &[u64::from(refusal.number())]);
 }
 
-fn form(number: usize, a: u64, b: u64, c: u64) -> Form {
-    Form {
-        number,
-        values: [a, b, c, 0, 0],
-    }
+pub fn done(page: &mut Page) {
+    page.put(b"(done)\n", &[]);
 }
 
-pub fn unread() -> Form {
-    form(UNREAD, 0, 0, 0)
-}
-
-pub fn done() -> Form {
-    form(DONE, 0, 0, 0)
-}
-
-pub fn refused(n: u8) -> Form {
-    form(REFUSED, n as u64, 0, 0)
-}
-
-pub fn touched() -> Form {
-    form(TOUCHED, 0, 0, 0)
-}
-
-// The reply of a start, of an instrument or an envelope.
-pub fn of_start(reply: Result<(), Refusal>) -> Form {
+// Of an instrument or an envelope.
+pub fn start(page: &mut Page, reply: Result<(), Refusal>) {
     match reply {
-        Ok(_) => form(READY, 0, 0, 0),
-        Err(reason) => refused(reason.number()),
+        Ok(()) => page.put(b"(ready)\n", &[]),
+        Err(refusal) => refused(page, refusal),
     }
 }
 
-pub fn of_reply(reply: Reply) -> Form {
+fn accepted(page: &mut Page, reply: Reply) {
     match reply {
-        Reply::Started(handle, killed, taken) => form(STARTED, handle, killed, taken),
-        Reply::Silent(handle) => form(SILENT, handle, 0, 0),
-        Reply::Kept(handle) => form(KEPT, handle, 0, 0),
-        Reply::Off(found) => form(OFF, flag(found), 0, 0),
-        Reply::Done => done(),
-        Reply::Released(found) => form(RELEASED, flag(found), 0, 0),
-        Reply::Planned => done(),
-        Reply::Refused(n) => refused(n),
+        Reply::Started {
+            handle,
+            killed,
+            taken,
+        } => {
+            let numbers = [handle, killed.unwrap_or(0), taken.unwrap_or(0)];
+            page.put(b"(started D D D)\n", &numbers)
+        }
+        Reply::Silent(handle) => page.put(b"(silent D)\n", &[handle]),
+        Reply::Kept(handle) => page.put(b"(kept D)\n", &[handle]),
+        Reply::Off(found) => page.put(b"(off D)\n", &[u64::from(found)]),
+        Reply::Released(found) => page.put(b"(released D)\n", &[u64::from(found)]),
+        Reply::Done | Reply::Planned => done(page),
     }
 }
 
-pub fn of_answer(answer: Answer) -> Form {
+pub fn reply(page: &mut Page, reply: Result<Reply, Refusal>) {
+    match reply {
+        Ok(reply) => accepted(page, reply),
+        Err(refusal) => refused(page, refusal),
+    }
+}
+
+// Of a query: its pattern with a number.
+pub fn answer(page: &mut Page, pattern: &[u8], answer: Result<u64, Refusal>) {
     match answer {
-        Answer::Active(found) => form(ACTIVE, flag(found), 0, 0),
-        Answer::Voices(n) => form(COUNT, n as u64, 0, 0),
-        Answer::Handle(_) => form(FOUND, 1, 0, 0),
-        Answer::NoHandle => form(FOUND, 0, 0, 0),
-        Answer::Refused(n) => refused(n),
+        Ok(n) => page.put(pattern, &[n]),
+        Err(refusal) => refused(page, refusal),
+    }
+}
+
+fn event(page: &mut Page, event: Event) {
+    match event {
+        Event::On(note, velocity) => page.put(b"(on D W)\n", &[u64::from(note), bits(velocity)]),
+        Event::Off(note) => page.put(b"(off D)\n", &[u64::from(note)]),
+        Event::Pedal(down) => page.put(b"(pedal D)\n", &[u64::from(down)]),
+        Event::AllOff => page.put(b"(alloff)\n", &[]),
+        Event::Bend(value) => page.put(b"(bend D)\n", &[u64::from(value)]),
+        Event::Other => page.put(b"(other)\n", &[]),
     }
 }
 
 // Where the reader ends it prints its cursor.
-pub fn of_step(found: Outcome<Cursor, Option<Event>>) -> Form {
+pub fn step(page: &mut Page, found: Outcome<Cursor, Option<Event>>) {
     let place = found.state.place as u64;
-    let status = found.state.status as u64;
+    let status = u64::from(found.state.status);
     match found.reply {
-        Ok(Some(event)) => of_event(event),
-        Ok(None) => form(END, place, status, 0),
-        Err(refusal) => form(REFUSED_AT, refusal.number() as u64, place, status),
-    }
-}
-
-fn of_event(event: Event) -> Form {
-    match event {
-        Event::On(note, velocity) => form(ON, note as u64, patterns::bits(velocity), 0),
-        Event::Off(note) => form(OFF, note as u64, 0, 0),
-        Event::Pedal(down) => form(PEDAL, flag(down), 0, 0),
-        Event::AllOff => form(ALL_OFF, 0, 0, 0),
-        Event::Bend(value) => form(BEND, value as u64, 0, 0),
-        Event::Other => form(OTHER, 0, 0, 0),
+        Ok(Some(e)) => event(page, e),
+        Ok(None) => page.put(b"(end D B)\n", &[place, status]),
+        Err(refusal) => {
+            let number = u64::from(refusal.number());
+            page.put(b"(refused D D B)\n", &[number, place, status])
+        }
     }
 }

@@ -1,112 +1,50 @@
 // Calls of the envelope that stands by itself.
 
-use crate::said;
-use envelope::{EnvGen, Stage};
-use patterns::{Form, bits, float_of, sums, word_of};
+use crate::ask::EnvCall;
+use crate::{Session, said};
+use envelope::EnvGen;
+use patterns::{Page, bits, sums};
 
-#[derive(Clone, Copy)]
-pub struct Gated {
-    pub env: EnvGen,
-    pub at: usize,
-}
-
-#[derive(Clone, Copy)]
-struct Turned {
-    env: EnvGen,
-    said: Form,
-}
-
-#[derive(Clone, Copy)]
-struct Ticked {
-    env: EnvGen,
-    sum: u64,
-}
-
-fn ticks(e: EnvGen, n: u32) -> Ticked {
-    let mut env = e;
+// The envelope after n ticks, and the checksum of its levels.
+fn ticked(mut env: EnvGen, n: u32) -> (EnvGen, u64) {
     let mut sum = sums::BASIS;
-    let mut i: u32 = 0;
-    while i < n {
+    for _ in 0..n {
         env = env.tick();
         sum = sums::with_float(sum, env.level);
-        i += 1;
     }
-    Ticked { env, sum }
+    (env, sum)
 }
 
-fn stage_number(stage: Stage) -> u64 {
-    match stage {
-        Stage::Idle => 0,
-        Stage::Attack => 1,
-        Stage::Decay => 2,
-        Stage::Sustain => 3,
-        Stage::Release => 4,
+impl Session {
+    fn tick(&mut self, n: u32, page: &mut Page) {
+        let (env, sum) = ticked(self.env, n);
+        self.env = env;
+        let numbers = [
+            sum,
+            env.stage as u64,
+            bits(env.level),
+            bits(env.rel_from),
+            u64::from(env.faded()),
+        ];
+        page.put(b"(ticked X D W W D)\n", &numbers);
     }
-}
 
-fn tick(e: EnvGen, n: u32) -> Turned {
-    let t = ticks(e, n);
-    let env = t.env;
-    let stage = env.stage;
-    let faded = patterns::flag(env.faded());
-    let values = [
-        t.sum,
-        stage_number(stage),
-        bits(env.level),
-        bits(env.rel_from),
-        faded,
-    ];
-    Turned {
-        env,
-        said: Form {
-            number: said::TICKED,
-            values,
-        },
+    fn gated(&mut self, env: EnvGen, page: &mut Page) {
+        self.env = env;
+        said::done(page);
     }
-}
 
-fn new(v: [u64; 5]) -> Turned {
-    let made = EnvGen::new(
-        float_of(v[1]),
-        float_of(v[2]),
-        float_of(v[3]),
-        float_of(v[4]),
-        word_of(v[0]),
-    );
-    let env = made.state;
-    let reply = made.reply;
-    Turned {
-        env,
-        said: said::of_start(reply),
-    }
-}
-
-fn done(env: EnvGen) -> Turned {
-    Turned {
-        env,
-        said: said::done(),
-    }
-}
-
-// By the places in the list of forms.
-fn turn(env: EnvGen, form: Form) -> Turned {
-    let v = form.values;
-    let k = form.number;
-    match k {
-        0 => new(v),
-        1 => done(env.gate_on()),
-        2 => done(env.gate_off()),
-        3 => done(env.kill()),
-        _ => tick(env, word_of(v[0])),
-    }
-}
-
-pub fn gate(e: EnvGen, form: Form, out: &mut [u8], at: usize) -> Gated {
-    let t = turn(e, form);
-    let env = t.env;
-    let said = t.said;
-    Gated {
-        env,
-        at: said::say(out, at, said),
+    pub fn env_call(&mut self, call: EnvCall, page: &mut Page) {
+        match call {
+            EnvCall::New { rate, a, d, s, r } => {
+                let made = EnvGen::new(a, d, s, r, rate);
+                self.env = made.state;
+                said::start(page, made.reply);
+            }
+            EnvCall::On => self.gated(self.env.gate_on(), page),
+            EnvCall::Off => self.gated(self.env.gate_off(), page),
+            EnvCall::Kill => self.gated(self.env.kill(), page),
+            EnvCall::Ticks(n) => self.tick(n, page),
+        }
     }
 }

@@ -1,9 +1,0 @@
--- `sums::is_marked` is safe and ends: `i` counts up to the length.
-use Rattle.std.proofs.Common.{◌-◌, ◌≤◌, length}
-use Rattle.patterns.proofs.sums.is_marked.Given as goal
-
-abbrev pub invariant-loop-i : goal.invariant-loop-i
-invariant-loop-i l = l.i ≤ length l.places
-
-abbrev pub decreases-loop-i : goal.decreases-loop-i
-decreases-loop-i l = length l.places - l.i

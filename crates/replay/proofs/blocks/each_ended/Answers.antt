@@ -1,1 +1,0 @@
--- `blocks::each_ended` is safe and ends: `i` counts up to n.

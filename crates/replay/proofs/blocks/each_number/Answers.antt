@@ -1,1 +1,0 @@
--- `blocks::each_number` is safe and ends: `i` counts up to the length.

@@ -1,1 +1,0 @@
--- `each_held` is safe and ends: `i` counts up to the length of the list.
