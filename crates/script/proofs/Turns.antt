@@ -1,4 +1,5 @@
 -- One law for each way out of the functions that answer a line.
+use Rattle.std.specs.Prelude.{Ok, Err}
 use mathlib.Core.Path.{◌≡◌, refl, ap, sym, ◌∙◌}
 use mathlib.Core.Bool.{Bool, true, false}
 use mathlib.Core.List.{List}
@@ -12,7 +13,7 @@ use Rattle.design.specs.declared.InstrumentDesign.{InstrumentDesign}
 use Rattle.design.specs.declared.DesignReply.{DesignReply}
 use Rattle.design.specs.declared.DesignReply.TheVariants.{Accepted, Refused}
 use Rattle.design.specs.declared.PlayMode.TheVariants.{Mono}
-use Rattle.design.specs.Accepted.{design_reply, is_accepted}
+use Rattle.design.specs.Accepted.{refusal_of, design_reply, is_accepted}
 use Rattle.forms.specs.declared.DesignForm.{DesignForm}
 use Rattle.forms.specs.declared.OnForm.{OnForm}
 use Rattle.forms.specs.declared.Form.{Form}
@@ -21,15 +22,18 @@ use Rattle.forms.specs.Forms.{DesignFits, OnFits, FormAs}
 use Rattle.model.specs.Types as model
 use Rattle.model.specs.Start.{fresh, start_of}
 use Rattle.table.specs.View.{voices_in}
-use Rattle.instrument.specs.declared.NewInstrument.{NewInstrument}
-use Rattle.instrument.specs.declared.Outcome.{Outcome}
+use Rattle.instrument.specs.declared.Instrument.{Instrument}
+use Rattle.instrument.proofs.Calls.{passed}
+use Rattle.outcome.specs.declared.Outcome.{Outcome}
+use Rattle.outcome.specs.declared.Refusal.{Refusal}
+use Rattle.outcome.specs.Numbers.{number_of}
 use Rattle.instrument.specs.View.{view}
-use Rattle.instrument.specs.Calls.{reply_of, CallAs, StartAs}
+use Rattle.instrument.specs.Calls.{Called, reply_of, start_reply, CallAs, StartAs}
 use Rattle.instrument.proofs.Parts.{accepted-yes}
 use Rattle.script.specs.declared.Session.{Session}
 use Rattle.script.specs.declared.Said.{Said}
 use Rattle.script.specs.Answers.{unread_text, ready_text, refused_text, reply_text, table_text}
-use Rattle.script.specs.Lines.{Printed, NoDesign, bits, mode_of, design_of, call_of, refusal_number, Stays, DesignDoes, OnDoes, VoicesDoes, Does, LineAs}
+use Rattle.script.specs.Lines.{Printed, NoDesign, bits, mode_of, design_of, call_of, Stays, DesignDoes, OnDoes, VoicesDoes, Does, LineAs}
 
 pub mode-legato : (n : ℕ) → (n ≡ 0 → ⊥) → (n ≡ 1 → ⊥) → Mono true ≡ mode_of n
 mode-legato zero f g = absurd (f refl)
@@ -56,7 +60,7 @@ module _ (b : Bool) (s : Session) (old new : List ℕ) (r : Said) (x : Stays s u
 
 -- ---- no design yet
 
-pub no-design : (e d : InstrumentDesign) (made : NewInstrument) → d ≡ e → is_accepted e ≡ false → StartAs d made
+pub no-design : (e d : InstrumentDesign) (made : Outcome Instrument (Unit {0})) → d ≡ e → is_accepted e ≡ false → StartAs d made
     → NoDesign (record { ready = false; state = made.state })
 unfolding start_of
 no-design z d made is e p =
@@ -64,16 +68,16 @@ no-design z d made is e p =
 
 -- ---- a design
 
-module _ (b : Bool) (s : Session) (f : DesignForm) (d : InstrumentDesign) (made : NewInstrument) (old new : List ℕ) (count : ℕ)
+module _ (b : Bool) (s : Session) (f : DesignForm) (d : InstrumentDesign) (made : Outcome Instrument (Unit {0})) (old new : List ℕ) (count : ℕ)
     (e : b ≡ false) (is : d ≡ design_of f) (p : StartAs d made) where
-  pub design-refused : (n k : ℕ) → made.reply ≡ Refused n → k ≡ refusal_number made.reply → Printed (refused_text k) old new count
+  pub design-refused : (refusal : Refusal) (k : ℕ) → made.reply ≡ Err refusal → k ≡ number_of refusal → Printed (refused_text k) old new count
       → DesignDoes b s (design_of f) old new (record { session = s; count = count })
   unfolding start_of
-  design-refused n k w h q =
-      let g : design_reply (design_of f) ≡ Refused n = sym (ap design_reply is) ∙ sym p.reply ∙ w in
+  design-refused refusal k w h q =
+      let g : design_reply (design_of f) ≡ Refused (number_of refusal) = sym (ap design_reply is) ∙ sym p.reply ∙ ap start_reply w in
       rw e (record {
         refused = λ m z.
-            let i : k ≡ m = h ∙ ap refusal_number (p.reply ∙ ap design_reply is ∙ z) in
+            let i : k ≡ m = h ∙ ap refusal_of (sym g ∙ z) in
             record { session = refl; printed = rw i at q };
         ready = λ z. not-both _ z g;
         in_room = λ z. not-both _ z g;
@@ -81,11 +85,11 @@ module _ (b : Bool) (s : Session) (f : DesignForm) (d : InstrumentDesign) (made 
         printed = λ z. not-both _ z g;
       })
 
-  pub design-ready : made.reply ≡ Accepted → Printed ready_text old new count
+  pub design-ready : ((refusal : Refusal) → made.reply ≡ Err refusal → ⊥) → Printed ready_text old new count
       → DesignDoes b s (design_of f) old new (record { session = record { ready = true; state = made.state }; count = count })
   unfolding start_of
   design-ready w q =
-      let g : design_reply d ≡ Accepted = sym p.reply ∙ w in
+      let g : design_reply d ≡ Accepted = sym p.reply ∙ ap start_reply (passed _ w) in
       rw e (record {
         refused = λ m z. not-both _ g (ap design_reply is ∙ z);
         ready = λ _. refl;
@@ -96,7 +100,7 @@ module _ (b : Bool) (s : Session) (f : DesignForm) (d : InstrumentDesign) (made 
 
 -- ---- an `on`
 
-pub on-calls : (b : Bool) (s : Session) (f : OnForm) (v : Float) (o : Outcome) (old new : List ℕ) (count : ℕ) → b ≡ true → v ≡ bits f.velocity
+pub on-calls : (b : Bool) (s : Session) (f : OnForm) (v : Float) (o : Called) (old new : List ℕ) (count : ℕ) → b ≡ true → v ≡ bits f.velocity
     → CallAs s.state (model.Call.note_on f.note v (eqb f.built 1)) o → Printed (reply_text (reply_of o.reply)) old new count
     → OnDoes b s (call_of f) old new (record { session = record { ready = true; state = o.state }; count = count })
 on-calls b s f v o old new count e h p q =

@@ -3,7 +3,6 @@ use Rattle.std.specs.Prelude.{◌≡◌, Bool, true, false, List, ◌++◌, ℕ,
 use Rattle.std.specs.Float.Ieee.{of_bits}
 use Rattle.std.specs.Float.{binary32}
 use Rattle.design.specs.declared.InstrumentDesign.{InstrumentDesign}
-use Rattle.design.specs.declared.DesignReply.{DesignReply}
 use Rattle.design.specs.declared.DesignReply.TheVariants.{Accepted, Refused}
 use Rattle.design.specs.declared.PlayMode.{PlayMode}
 use Rattle.design.specs.declared.PlayMode.TheVariants.{Poly, Mono}
@@ -63,11 +62,6 @@ design_of f = record {
 -- the call that an `on` names
 abbrev pub call_of : OnForm → model.Call
 call_of f = model.Call.note_on f.note (bits f.velocity) (eqb f.built 1)
-
--- the number that a design is refused with, 0 where it is accepted
-abbrev pub refusal_number : DesignReply → ℕ
-refusal_number Accepted = 0
-refusal_number (Refused n) = n
 
 -- before the first line: a state of zeros, as a refused start gives it
 pub record NoDesign (s : Session) : Type 0 where

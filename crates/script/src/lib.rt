@@ -2,23 +2,24 @@
 
 #![tactic(auto)]
 
-ghost use Rattle.std.specs.Prelude.{◌≡◌, ◌+◌, ◌<◌, ◌≤◌, length, true, false};
+ghost use Rattle.std.specs.Prelude.{◌≡◌, ◌+◌, ◌<◌, ◌≤◌, length, true, false, Ok};
 ghost use Rattle.std.specs.Float.Ieee.{of_bits};
 ghost use Rattle.std.specs.Float.{binary32};
 ghost use Rattle.lists.specs.Count.{one_if};
 ghost use Rattle.voice.specs.View.{shown};
 ghost use Rattle.table.specs.View.{seen_first, voices_of};
+ghost use Rattle.model.specs.Types.{Reply.started};
 ghost use Rattle.instrument.specs.Calls.{reply_of};
-ghost use Rattle.instrument.specs.declared.Reply.TheVariants.{Started};
 ghost use Rattle.forms.specs.Forms.{DesignFits, OnFits};
 ghost use Rattle.forms.specs.Forms.{decimal_part, word_part};
 ghost use Rattle.script.specs.Answers.{unread_text, one_text, reply_text, row_text, rows_text, table_text};
-ghost use Rattle.script.specs.Lines.{Puts, mode_of, design_of, call_of, refusal_number, NoDesign, Stays, DesignDoes, OnDoes, VoicesDoes, LineAs};
+ghost use Rattle.script.specs.Lines.{Puts, mode_of, design_of, call_of, NoDesign, Stays, DesignDoes, OnDoes, VoicesDoes, LineAs};
 
-use design::{Adsr, DesignReply, InstrumentDesign, Modulation, PlayMode};
+use design::{Adsr, InstrumentDesign, Modulation, PlayMode};
 use forms::{DesignForm, Form, OnForm};
 use instrument::{Instrument, Reply};
 use lists::smaller;
+use outcome::Refusal;
 use voice::Voice;
 
 // `ready` once a design was accepted.
@@ -65,8 +66,8 @@ fn put_one(out: &mut [u8], word: &[u8], n: u64) -> usize
 }
 
 fn put_started(out: &mut [u8], handle: u64, killed: u64, taken: u64) -> usize
-    ensures puts { Puts (reply_text (reply_of (Started handle killed taken))) out.old 0 out.new result }
-    ensures taken_len_bound { length (reply_text (reply_of (Started handle killed taken))) ≤ 73 }
+    ensures puts { Puts (reply_text (started handle killed taken)) out.old 0 out.new result }
+    ensures taken_len_bound { length (reply_text (started handle killed taken)) ≤ 73 }
 {
     let a = put_decimal(out, 0, b"(started ", handle);
     let b = put_decimal(out, a, b" ", killed);
@@ -74,19 +75,32 @@ fn put_started(out: &mut [u8], handle: u64, killed: u64, taken: u64) -> usize
     text::put_literal(out, c, b")\n")
 }
 
-fn put_reply(out: &mut [u8], reply: Reply) -> usize
-    ensures puts { Puts (reply_text (reply_of reply)) out.old 0 out.new result }
-    ensures reply_len_bound { length (reply_text (reply_of reply)) ≤ 4096 }
+fn put_accepted(out: &mut [u8], reply: Reply) -> usize
+    ensures puts { Puts (reply_text (reply_of (Ok reply))) out.old 0 out.new result }
+    ensures reply_len_bound { length (reply_text (reply_of (Ok reply))) ≤ 4096 }
 {
     match reply {
-        Reply::Started(handle, killed, taken) => put_started(out, handle, killed, taken),
+        Reply::Started {
+            handle,
+            killed,
+            taken,
+        } => put_started(out, handle, killed.unwrap_or(0), taken.unwrap_or(0)),
         Reply::Silent(handle) => put_one(out, b"(silent ", handle),
         Reply::Kept(handle) => put_one(out, b"(kept ", handle),
         Reply::Off(found) => put_one(out, b"(off ", bit(found)),
         Reply::Done => text::put_literal(out, 0, b"(done)\n"),
         Reply::Released(found) => put_one(out, b"(released ", bit(found)),
         Reply::Planned => text::put_literal(out, 0, b"(done)\n"),
-        Reply::Refused(n) => put_one(out, b"(refused ", n as u64),
+    }
+}
+
+fn put_reply(out: &mut [u8], reply: Result<Reply, Refusal>) -> usize
+    ensures puts { Puts (reply_text (reply_of reply)) out.old 0 out.new result }
+    ensures reply_len_bound { length (reply_text (reply_of reply)) ≤ 4096 }
+{
+    match reply {
+        Ok(reply) => put_accepted(out, reply),
+        Err(refusal) => put_one(out, b"(refused ", refusal.number() as u64),
     }
 }
 
@@ -200,16 +214,6 @@ fn design_of(f: DesignForm) -> InstrumentDesign
     }
 }
 
-// 0 where the design is accepted.
-fn refusal_of(reply: DesignReply) -> u64
-    ensures { result ≡ refusal_number reply }
-{
-    match reply {
-        DesignReply::Accepted => 0,
-        DesignReply::Refused(n) => n as u64,
-    }
-}
-
 fn design_line(s: Session, f: DesignForm, out: &mut [u8]) -> Said
     requires design_fits { DesignFits f }
     requires in_bounds { 4096 ≤ length out.old }
@@ -219,11 +223,10 @@ fn design_line(s: Session, f: DesignForm, out: &mut [u8]) -> Said
         return unread(s, out);
     }
     let made = Instrument::new(design_of(f));
-    let reply = made.reply;
-    let DesignReply::Accepted = reply else {
-        let count = put_one(out, b"(refused ", refusal_of(reply));
+    if let Err(refusal) = made.reply {
+        let count = put_one(out, b"(refused ", refusal.number() as u64);
         return Said { session: s, count };
-    };
+    }
     let count = text::put_literal(out, 0, b"(ready)\n");
     let state = made.state;
     Said {

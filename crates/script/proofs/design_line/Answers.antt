@@ -8,14 +8,14 @@ use Rattle.script.proofs.design_line.Goals as goal
 pub returns-then-s : goal.returns-then-s
 returns-then-s c = design-second c.args.s.ready _ _ _ _ c.unread.ensures _ c.if-s.true
 
-pub returns-in_default : goal.returns-in_default
-returns-in_default c =
+pub returns-in-Err : goal.returns-in-Err
+returns-in-Err c =
     design-refused c.args.s.ready c.args.s c.args.f _ c.new-made.result _ _ _ c.if-s.false c.design_of.ensures
-    c.new-made.ensures _ _ c.in_default.is c.refusal_of.ensures
+    c.new-made.ensures _ _ c.in-Err.is c.number.ensures
     (printed _ _ _ _ c.put_one-count.ensures.puts (omega (arith, c.put_one-count.ensures.n_in_bounds)) c.requires.in_bounds)
 
 pub returns : goal.returns
 returns c =
     design-ready c.args.s.ready c.args.s c.args.f _ c.new-made.result _ _ _ c.if-s.false c.design_of.ensures
-    c.new-made.ensures c.in-Accepted.is
+    c.new-made.ensures c.in_default.not-Err
     (printed _ _ _ _ (puts _ _ _ _ _ c.put_literal-count.ensures) (omega arith) c.requires.in_bounds)
