@@ -4,7 +4,8 @@ ghost use Rattle.std.specs.Prelude.{◌≤◌};
 
 use crate::play::Played;
 use crate::said;
-use instrument::{Instrument, MixReply, Reply};
+use instrument::{Instrument, Reply, Report};
+use outcome::Refusal;
 use patterns::{Form, byte_of, float_of, put, sums, word_of};
 use text::put_literal;
 
@@ -90,11 +91,17 @@ fn planned(out: &mut [u8], at: usize, curve: &[f32], numbers: bool) -> usize {
     put_literal(out, b, b")\n")
 }
 
-fn plan_reply(out: &mut [u8], at: usize, said: Reply, curve: &[f32], numbers: bool) -> usize {
+fn plan_reply(
+    out: &mut [u8],
+    at: usize,
+    said: Result<Reply, Refusal>,
+    curve: &[f32],
+    numbers: bool,
+) -> usize {
     match said {
-        Reply::Planned => planned(out, at, curve, numbers),
-        Reply::Refused(n) => refusal(out, at, n, curve),
-        _ => at,
+        Ok(Reply::Planned) => planned(out, at, curve, numbers),
+        Ok(_) => at,
+        Err(reason) => refusal(out, at, reason.number(), curve),
     }
 }
 
@@ -169,17 +176,17 @@ fn report(out: &mut [u8], at: usize, ended: [u64; 64], n: usize) -> usize {
 fn mix_reply(
     out: &mut [u8],
     at: usize,
-    said: MixReply,
-    ended: [u64; 64],
+    said: Result<Report, Refusal>,
     stereo: &[f32],
     numbers: bool,
 ) -> usize {
     match said {
-        MixReply::Mixed(n) => {
+        Ok(told) => {
             let next = mixed(out, at, stereo, numbers);
-            report(out, next, ended, n)
+            let ended = told.ended;
+            report(out, next, ended, told.count)
         }
-        MixReply::Refused(n) => refusal(out, at, n, stereo),
+        Err(reason) => refusal(out, at, reason.number(), stereo),
     }
 }
 
@@ -198,10 +205,9 @@ fn mix_on(
     let o = s.mix(samples, stereo);
     let state = o.state;
     let said = o.reply;
-    let ended = o.ended;
     Played {
         state,
-        at: mix_reply(out, at, said, ended, stereo, numbers),
+        at: mix_reply(out, at, said, stereo, numbers),
     }
 }
 

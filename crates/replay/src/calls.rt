@@ -1,10 +1,12 @@
 // Calls of the instrument with neither curve nor samples, and its queries, by the places in the list of forms.
 
 use crate::ask::{ACTIVE, COUNT};
-use instrument::{Answer, Instrument, Outcome};
+use crate::said;
+use instrument::{Instrument, Reply};
+use outcome::Outcome;
 use patterns::{Form, byte_of, float_of};
 
-pub fn called(s: Instrument, form: Form) -> Outcome {
+pub fn called(s: Instrument, form: Form) -> Outcome<Instrument, Reply> {
     let v = form.values;
     let n = v[0];
     let k = form.number;
@@ -20,14 +22,15 @@ pub fn called(s: Instrument, form: Form) -> Outcome {
     }
 }
 
-pub fn asked(s: Instrument, form: Form) -> Answer {
+// What is printed of an answer.
+pub fn asked(s: Instrument, form: Form) -> Form {
     let v = form.values;
     let n = v[0];
     if form.number == ACTIVE {
-        return s.is_active(n);
+        return said::of_active(s.is_active(n));
     }
     if form.number == COUNT {
-        return s.active_voices();
+        return said::of_voices(s.active_voices());
     }
-    s.voice_of(byte_of(n))
+    said::of_voice(s.voice_of(byte_of(n)))
 }

@@ -1,9 +1,9 @@
 // What is printed of a reply.
 
-use design::DesignReply;
 use envelope::EnvReply;
-use instrument::{Answer, Reply};
+use instrument::Reply;
 use midi::Cursor;
+use outcome::Refusal;
 use patterns::{Form, flag};
 
 // The places in the list of `say`.
@@ -81,10 +81,10 @@ pub fn touched() -> Form {
     form(TOUCHED, 0, 0, 0)
 }
 
-pub fn of_start(reply: DesignReply) -> Form {
+pub fn of_start(reply: Result<(), Refusal>) -> Form {
     match reply {
-        DesignReply::Accepted => form(READY, 0, 0, 0),
-        DesignReply::Refused(n) => refused(n),
+        Ok(_) => form(READY, 0, 0, 0),
+        Err(refusal) => refused(refusal.number()),
     }
 }
 
@@ -95,26 +95,44 @@ pub fn of_env(reply: EnvReply) -> Form {
     }
 }
 
-pub fn of_reply(reply: Reply) -> Form {
+pub fn of_reply(reply: Result<Reply, Refusal>) -> Form {
     match reply {
-        Reply::Started(handle, killed, taken) => form(STARTED, handle, killed, taken),
-        Reply::Silent(handle) => form(SILENT, handle, 0, 0),
-        Reply::Kept(handle) => form(KEPT, handle, 0, 0),
-        Reply::Off(found) => form(OFF, flag(found), 0, 0),
-        Reply::Done => done(),
-        Reply::Released(found) => form(RELEASED, flag(found), 0, 0),
-        Reply::Planned => done(),
-        Reply::Refused(n) => refused(n),
+        Ok(
+            Reply::Started {
+                handle,
+                killed,
+                taken,
+            },
+        ) => form(STARTED, handle, killed.unwrap_or(0), taken.unwrap_or(0)),
+        Ok(Reply::Silent(handle)) => form(SILENT, handle, 0, 0),
+        Ok(Reply::Kept(handle)) => form(KEPT, handle, 0, 0),
+        Ok(Reply::Off(found)) => form(OFF, flag(found), 0, 0),
+        Ok(Reply::Done) => done(),
+        Ok(Reply::Released(found)) => form(RELEASED, flag(found), 0, 0),
+        Ok(Reply::Planned) => done(),
+        Err(refusal) => refused(refusal.number()),
     }
 }
 
-pub fn of_answer(answer: Answer) -> Form {
+pub fn of_active(answer: Result<bool, Refusal>) -> Form {
     match answer {
-        Answer::Active(found) => form(ACTIVE, flag(found), 0, 0),
-        Answer::Voices(n) => form(COUNT, n as u64, 0, 0),
-        Answer::Handle(_) => form(FOUND, 1, 0, 0),
-        Answer::NoHandle => form(FOUND, 0, 0, 0),
-        Answer::Refused(n) => refused(n),
+        Ok(found) => form(ACTIVE, flag(found), 0, 0),
+        Err(refusal) => refused(refusal.number()),
+    }
+}
+
+pub fn of_voices(answer: Result<usize, Refusal>) -> Form {
+    match answer {
+        Ok(n) => form(COUNT, n as u64, 0, 0),
+        Err(refusal) => refused(refusal.number()),
+    }
+}
+
+// Which voice it is stays free.
+pub fn of_voice(answer: Result<Option<u64>, Refusal>) -> Form {
+    match answer {
+        Ok(handle) => form(FOUND, flag(handle.is_some()), 0, 0),
+        Err(refusal) => refused(refusal.number()),
     }
 }
 

@@ -25,7 +25,7 @@ pub fn show(s: Instrument, line: &[u8], form: Form, out: &mut [u8], at: usize) -
         return said::say(out, at, said::unread());
     }
     if k < COPIES {
-        return said::say(out, at, said::of_answer(calls::asked(s, form)));
+        return said::say(out, at, calls::asked(s, form));
     }
     part(out, at, s, k)
 }
