@@ -1,7 +1,8 @@
 // States to measure on, made by calls.
 
 use design::{Adsr, InstrumentDesign, Modulation, PlayMode};
-use instrument::{Instrument, Outcome, Reply};
+use instrument::{Instrument, Reply};
+use outcome::Outcome;
 
 // How large a state is: the design's max and unison, and how many voices are struck before and after an all-off.
 #[derive(Clone, Copy)]
@@ -50,11 +51,8 @@ pub fn next_note(note: u8) -> u8 {
 }
 
 // A state as a call would have given it back.
-pub fn answered(state: Instrument) -> Outcome {
-    Outcome {
-        reply: Reply::Done,
-        state,
-    }
+pub fn answered(state: Instrument) -> Outcome<Instrument, Reply> {
+    Outcome::answered(state, Reply::Done)
 }
 
 pub fn on(s: Instrument, note: u8) -> Instrument {

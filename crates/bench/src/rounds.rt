@@ -1,9 +1,9 @@
 // One call again and again, each on the state that the one before gave.
 
 use crate::{build, sums};
-use instrument::{Instrument, MixOutcome, MixReply};
+use instrument::{Instrument, Report};
 use midi::{Cursor, Event};
-use outcome::Refusal;
+use outcome::{Outcome, Refusal};
 
 // After each plan the block is closed by hand, so that the next plan may open one.
 pub fn plans(start: Instrument, frames: usize, turns: usize, curve: &mut [f32]) -> Instrument {
@@ -26,11 +26,13 @@ pub fn mixes(
     samples: &[f32],
     out: &mut [f32],
 ) -> Instrument {
-    let mut o = MixOutcome {
-        reply: MixReply::Mixed(0),
-        ended: [0; 64],
-        state: start,
-    };
+    let mut o = Outcome::answered(
+        start,
+        Report {
+            count: 0,
+            ended: [0; 64],
+        },
+    );
     let mut i: usize = 0;
     while i < turns {
         o.state.frames = frames;
