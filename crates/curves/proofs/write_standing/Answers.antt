@@ -3,7 +3,6 @@ use mathlib.Core.List.{flat_map}
 use Prim.Native.Nat.{◌+◌, ◌*◌, ◌≤◌, ◌<◌, ◌-◌}
 use native.Mathlib.Nat.{mul-zero}
 use native.Mathlib.Omega.{arith}
-use borrow.Author.Rules.{rules}
 use lib.ListN.{length}
 use lib.Seq.{take_all}
 use Rattle.lists.specs.Parts.{parts-left}
@@ -46,7 +45,7 @@ loop-copy-preserved c =
     let l = parts-left at a.frames n.result i _ (omega (arith, counts, n.ensures.1)) inv.0 in
     let e : at + a.frames - at ≡ a.frames = omega arith in
     let h : at + a.frames ≤ length c.loop-copy.curve = omega (arith, l) in
-    (l, flat-writes at (at + a.frames - at) a.frames c.loop-copy.curve _ _ cs i no_copy e h counts (rw all at c.heard.ensures) inv.1 (c.fill.ensures.after (search rules)))
+    (l, flat-writes at (at + a.frames - at) a.frames c.loop-copy.curve _ _ cs i no_copy e h counts (rw all at c.heard.ensures) inv.1 c.hold.ensures)
 
 pub returns : goal.returns
 returns c =
