@@ -401,9 +401,7 @@ impl Instrument {
         };
         let newest = rest.newest();
         let glide = self.design.glide;
-        let aimed = self
-            .table
-            .change_at(place, |v| v.aimed_at(newest, glide));
+        let aimed = self.table.change_at(place, |v| v.aimed_at(newest, glide));
         self.table = aimed;
         answered(Reply::Off(true), self)
     }
