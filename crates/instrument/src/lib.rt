@@ -370,9 +370,7 @@ impl Instrument {
         };
         let newest = rest.newest();
         let glide = self.design.glide;
-        let aimed = self
-            .table
-            .change_at(place, |v| v.aimed_at(newest, glide));
+        let aimed = self.table.change_at(place, |v| v.aimed_at(newest, glide));
         self.table = aimed;
         Outcome::answered(self, Reply::Off(true))
     }
