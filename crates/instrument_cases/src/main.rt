@@ -11,147 +11,69 @@
 
 #![tactic(auto)]
 
+use instrument::Instrument;
+use lines::Line;
+use patterns::Page;
 use replay::Session;
 use std::io;
 use std::io::Read;
 
 mod made;
 
-// The session, and the line under way.
-#[derive(Drop)]
-struct Reading {
-    session: Session,
-    line: [u8; 257],
-    len: usize,
-}
-
-fn begin() -> Reading {
-    let mut session = Session::new();
-    session.numbers = true;
-    Reading {
-        session,
-        line: [0; 257],
-        len: 0,
-    }
-}
-
-fn print(rt: &impl Print, out: &[u8], count: usize) -> io::Result<()> {
-    if count <= out.len() {
-        rt.write_all(&out[..count])?;
-    }
-    Ok(())
-}
-
-fn begins(text: &[u8], with: &[u8]) -> bool {
-    let r = text::literal(text, 0, with);
-    r.ok
-}
-
 // A refused call must give the state back that it was given; a refused start need not.
-fn check(rt: &impl Print, s: Session, t: Session, line: &[u8], out: &[u8]) -> io::Result<()> {
-    if begins(line, b"(design") {
-        return Ok(());
-    }
-    if !begins(out, b"(refused ") {
-        return Ok(());
-    }
-    if !equal_states::equal(s.instrument, t.instrument) {
+fn is_kept(before: &Instrument, after: &Instrument, line: &[u8], said: &[u8]) -> bool {
+    line.starts_with(b"(design")
+        || !said.starts_with(b"(refused ")
+        || equal_states::equal(*before, *after)
+}
+
+fn answer(rt: &impl Print, session: &mut Session, line: &[u8]) -> io::Result<()> {
+    let mut samples = [0.0; 160];
+    let mut stereo = [0.0; 160];
+    let mut out = [0; 4096];
+    let mut page = Page::new(&mut out);
+    let before = session.instrument;
+    session.answer(line, &mut samples, &mut stereo, &mut page);
+    rt.write_all(page.text())?;
+    if !is_kept(&before, &session.instrument, line, page.text()) {
         rt.write_all(b"(changed)\n")?;
     }
     Ok(())
 }
 
-fn answer(rt: &impl Print, s: Session, line: &[u8]) -> io::Result<Session> {
-    let mut samples = [0.0f32; 160];
-    let mut stereo = [0.0f32; 160];
-    let mut out = [0u8; 4096];
-    let a = s.answer(line, &mut samples, &mut stereo, &mut out, 0);
-    let t = a.session;
-    print(rt, &out, a.at)?;
-    check(rt, s, t, line, &out)?;
-    Ok(t)
+fn quiet(session: &mut Session, line: &[u8]) {
+    let mut out = [0; 4096];
+    session.answer(line, &mut [], &mut [], &mut Page::new(&mut out));
 }
 
-// The line behind the dash.
-fn quiet(s: Session, line: &[u8]) -> Session {
-    if line.len() < 1 {
-        return s;
+fn line(rt: &impl Print, session: &mut Session, line: &[u8]) -> io::Result<()> {
+    if line.starts_with(b"(case ") {
+        rt.write_all(line)?;
+        return rt.write_all(b"\n");
     }
-    let mut out = [0u8; 4096];
-    let a = s.answer(&line[1..], &mut [], &mut [], &mut out, 0);
-    a.session
-}
-
-fn case(rt: &impl Print, line: &[u8]) -> io::Result<()> {
-    rt.write_all(line)?;
-    rt.write_all(b"\n")
-}
-
-fn line(rt: &impl Print, mut s: Session, line: &[u8]) -> io::Result<Session> {
-    if begins(line, b"(case ") {
-        case(rt, line)?;
-        return Ok(s);
+    if let Some(rest) = line.strip_prefix(b"-") {
+        quiet(session, rest);
+        return Ok(());
     }
-    if begins(line, b"-") {
-        return Ok(quiet(s, line));
+    if made::made(&mut session.instrument, line) {
+        return Ok(());
     }
-    let form = made::read(line);
-    if form.number == made::NONE {
-        return answer(rt, s, line);
-    }
-    let state = made::made(s.instrument, form);
-    s.instrument = state;
-    Ok(s)
-}
-
-// A line feed ends a line.
-fn end_line(rt: &impl Print, s: Session, text: &[u8], len: usize) -> io::Result<Session> {
-    if len <= text.len() {
-        return line(rt, s, &text[..len]);
-    }
-    Ok(s)
-}
-
-// The length of the line after a byte.
-fn keep(byte: u8, line: &mut [u8], len: usize) -> usize {
-    if byte == b'\n' {
-        return 0;
-    }
-    if len < line.len() {
-        line[len] = byte;
-        return len + 1;
-    }
-    len
-}
-
-fn take_all(rt: &impl Print, chunk: &[u8], r: Reading) -> io::Result<Reading> {
-    let mut session = r.session;
-    let mut line = r.line;
-    let mut len = r.len;
-    let mut i: usize = 0;
-    while i < chunk.len() {
-        let byte = chunk[i];
-        if byte == b'\n' {
-            session = end_line(rt, session, &line, len)?;
-        }
-        len = keep(byte, &mut line, len);
-        i += 1;
-    }
-    Ok(Reading { session, line, len })
+    answer(rt, session, line)
 }
 
 // Nothing says that the input ends, so the turns are counted.
 fn main(rt: HostRuntime) -> io::Result<()> {
     let mut input = rt.stdin();
-    let mut buffer = [0u8; 4096];
-    let mut r = begin();
+    let mut buffer = [0; 4096];
+    let mut session = Session::new();
+    session.numbers = true;
+    let mut gathered = Line::<257>::new();
     for _ in 0..u64::MAX {
         let count = input.read(&mut buffer)?;
         if count == 0 {
             break;
         }
-        let next = take_all(&rt, &buffer[..count], r)?;
-        r = next;
+        gathered.take(&buffer[..count], |text| line(&rt, &mut session, text))?;
     }
     Ok(())
 }

@@ -1,6 +1,0 @@
--- The loop ends: each turn takes one more byte of the chunk.
-use Rattle.std.proofs.Common.{length, ◌-◌}
-use Rattle.instrument_cases.proofs.take_all.Given as goal
-
-abbrev pub decreases-loop-i : goal.decreases-loop-i
-decreases-loop-i g l = length l.chunk - l.i

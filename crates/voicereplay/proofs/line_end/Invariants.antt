@@ -1,9 +1,0 @@
--- `i` counts up from `from` to the length.
-use Rattle.std.proofs.Common.{length, ◌≤◌, ◌-◌}
-use Rattle.voicereplay.proofs.line_end.Given as goal
-
-abbrev pub invariant-loop-i : goal.invariant-loop-i
-invariant-loop-i l = l.from ≤ l.i
-
-abbrev pub decreases-loop-i : goal.decreases-loop-i
-decreases-loop-i l = length l.chunk - l.i
