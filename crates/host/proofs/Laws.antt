@@ -35,7 +35,8 @@ use Rattle.wire.specs.declared.HostState.{HostState}
 use Rattle.wire.specs.Reads.{mode_numbered, stage_numbered, design_of, env_of, numbered, model_of, ReadFrom, WrittenFrom}
 use Rattle.std.specs.Int.{from_bool}
 use Rattle.host.specs.Said.{flag_number, said_of, report_of, said_start, said_answer, refusing}
-use Rattle.host.specs.Hosted.{host_refusal, host_reply, host_lent, HostedAs, HostCallAs, Hosts, HostedBy, AskedBy, unread, HostVoiceAs, host_asked, host_design_reply, host_accepted, HostStartAs, BegunAs}
+use Rattle.host.specs.Hosted.{host_refusal, host_reply, host_lent, HostedAs, HostCallAs, Hosts, HostedBy, AskedBy, unread, HostVoiceAs, host_asked}
+use Rattle.host.specs.Hosted.{host_design_reply, host_accepted, HostStartAs, BegunAs}
 use Rattle.host.specs.Events.{HostTickAs}
 use Rattle.host.specs.declared.HostReply.{HostReply}
 use Rattle.host.specs.declared.HostOutcome.{HostOutcome}

@@ -39,8 +39,8 @@ enum Kind {
     NoHandle,
 }
 
-// What a call or a query replies. `kind`, a number as C needs it: 0 refused, 1 started, 2 silent, 3 kept, 4 off, 5 done, 6 released, 7 planned, 8 mixed,
-// 9 ready, 10 active, 11 voices, 12 handle, 13 no handle. What a kind does not name is 0.
+// What a call or a query replies. `kind` is a number, as C needs it: 0 refused, 1 started, 2 silent, 3 kept, 4 off, 5 done,
+// 6 released, 7 planned, 8 mixed, 9 ready, 10 active, 11 voices, 12 handle, 13 no handle. What a kind does not name is 0.
 #[repr(C)]
 #[derive(Clone, Copy, Default)]
 pub struct HostReply {

@@ -9,5 +9,6 @@ pub returns : goal.returns
 unfolding numbered
 returns c =
     let h = c.args.self.now in
-    let voices = all_from_yields_List voice_numbered _ _ c.all-voices.result c.all-voices.ensures.ran (YieldsList-from_take h.voice_count (YieldsList-from_slice h.voices cc) cc) (λ x b q k. search (rules, tests)) in
+    let voices = all_from_yields_List voice_numbered _ _ c.all-voices.result c.all-voices.ensures.ran
+    (YieldsList-from_take h.voice_count (YieldsList-from_slice h.voices cc) cc) (λ x b q k. search (rules, tests)) in
     rw (c.is_numbered.ensures, voices, all_same voice_numbered)

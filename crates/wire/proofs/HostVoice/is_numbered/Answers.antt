@@ -9,5 +9,6 @@ pub returns : goal.returns
 unfolding voice_numbered
 returns c =
     let v = c.args.self.now in
-    let copies = all_from_yields_List copy_numbered _ _ c.all-copies.result c.all-copies.ensures.ran (YieldsList-from_take v.copy_count (YieldsList-from_slice v.copies cc) cc) (λ x b q k. search (rules, tests)) in
+    let copies = all_from_yields_List copy_numbered _ _ c.all-copies.result c.all-copies.ensures.ran
+    (YieldsList-from_take v.copy_count (YieldsList-from_slice v.copies cc) cc) (λ x b q k. search (rules, tests)) in
     rw (c.is_numbered.ensures, copies, all_same copy_numbered)
