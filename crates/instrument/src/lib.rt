@@ -447,7 +447,7 @@ impl Instrument {
         if let Err(refusal) = barred(self.well_formed(), self.frames) {
             return Outcome::refused(self, refusal);
         }
-        let found = self.table.find_first(|v| v.handle == handle);
+        let found = self.table.find_first(|v| v.has_handle(handle));
         let Some(place) = found else {
             return Outcome::answered(self, Reply::Released(false));
         };
@@ -476,7 +476,7 @@ impl Instrument {
         if !self.well_formed() {
             return Err(Refusal::Malformed);
         }
-        let found = self.table.find_first(|v| v.handle == handle);
+        let found = self.table.find_first(|v| v.has_handle(handle));
         Ok(found.is_some())
     }
 

@@ -4,7 +4,7 @@
 
 ghost use Rattle.std.specs.Prelude.{◌≡◌, ◌≤◌, length, take};
 ghost use Rattle.stream.specs.declared.UnisonCopy.{UnisonCopy};
-ghost use Rattle.model.specs.Voices.{released_voice, killed_voice, with_sustained, with_copies, aimed_at, struck_again};
+ghost use Rattle.model.specs.Voices.{has_handle, released_voice, killed_voice, with_sustained, with_copies, aimed_at, struck_again};
 ghost use Rattle.model.specs.Notes.{off_voice, plays as plays_of, kept_voice};
 ghost use Rattle.model.specs.Controls.{lifted_voice};
 ghost use Rattle.model.specs.Queries.{sounds_note};
@@ -130,6 +130,13 @@ impl Voice {
     {
         let v = self.aimed_at(note, coeff).with_sustained(false);
         if legato { v } else { v.struck_again(velocity) }
+    }
+
+    #[tactic(auto, unfolding(crate::specs::View::shown))]
+    pub fn has_handle(self, handle: u64) -> bool
+        ensures { result ≡ has_handle handle (shown self) }
+    {
+        self.handle == handle
     }
 
     pub fn plays(self, note: u8) -> bool

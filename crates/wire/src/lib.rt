@@ -6,7 +6,7 @@
 ghost use Rattle.std.specs.Prelude.{◌≡◌, ◌<◌, take};
 ghost use Rattle.std.specs.List.{AllZip};
 ghost use Rattle.voice.specs.View.{seen};
-ghost use Rattle.wire.specs.Reads.{mode_of, stage_of, design_of, env_of, copy_of, seen_of, ReadAs};
+ghost use Rattle.wire.specs.Reads.{mode_of, stage_of, design_of, env_of, copy_of, seen_of, ReadAs, ReadFrom};
 
 use design::{Adsr, InstrumentDesign, Modulation, PlayMode};
 use envelope::{EnvGen, Stage};
@@ -135,13 +135,13 @@ fn stage_of(number: u32) -> Stage
 fn first_made<A: Copy, B: Copy, const N: usize, F: Fn(A) -> B>(
     items: &[A; N],
     count: usize,
+    rest: B,
     make: F,
 ) -> [B; N]
-    requires some { 0 < N }
-    requires callable { F.IsAlwaysCallable make }
+    requires { F.IsAlwaysCallable make }
     ensures { AllZip (F.post make) (take count items.now) (take count result) }
 {
-    let mut made = [make(items[0]); N];
+    let mut made = [rest; N];
     for j in 0..count.min(N) {
         made[j] = make(items[j]);
     }
@@ -224,7 +224,12 @@ impl From<HostVoice> for Voice {
         Voice {
             handle: h.handle,
             note: Note(h.note),
-            copies: first_made(&h.copies, h.copy_count, UnisonCopy::from),
+            copies: first_made(
+                &h.copies,
+                h.copy_count,
+                UnisonCopy::from(h.copies[0]),
+                UnisonCopy::from,
+            ),
             copy_count: h.copy_count,
             built_hz: h.built_hz,
             env: h.env.into(),
@@ -236,34 +241,49 @@ impl From<HostVoice> for Voice {
 }
 
 // By reference, which spares a copy of all the numbers, as does the way back.
+impl HostState {
+    // The state that the numbers stand for; whether they stand for one is `is_numbered`.
+    pub fn state(&self) -> Instrument
+        ensures { ReadFrom self.now result }
+    {
+        Instrument {
+            design: self.design.into(),
+            table: Table {
+                voices: first_made(
+                    &self.voices,
+                    self.voice_count,
+                    Voice::from(self.voices[0]),
+                    Voice::from,
+                ),
+                count: self.voice_count,
+            },
+            next_handle: self.next_handle,
+            sustain: self.sustain != 0,
+            bend: self.bend,
+            brightness: self.brightness,
+            vib_phase: self.vib_phase,
+            flt_phase: self.flt_phase,
+            trem_phase: self.trem_phase,
+            trem: self.trem,
+            held: Held {
+                notes: first_made(&self.held, self.held_count, Note(0), |note: u8| Note(note)),
+                count: self.held_count,
+            },
+            frames: self.frames,
+        }
+    }
+}
+
 impl TryFrom<&HostState> for Instrument {
     type Error = Refusal;
 
     ghost try_from_gives = { λ h r. ReadAs h.now r };
 
     fn try_from(h: &HostState) -> Result<Instrument, Refusal> {
-        if !h.is_numbered() {
-            return Err(Refusal::Malformed);
+        if h.is_numbered() {
+            Ok(h.state())
+        } else {
+            Err(Refusal::Malformed)
         }
-        Ok(Instrument {
-            design: h.design.into(),
-            table: Table {
-                voices: first_made(&h.voices, h.voice_count, Voice::from),
-                count: h.voice_count,
-            },
-            next_handle: h.next_handle,
-            sustain: h.sustain != 0,
-            bend: h.bend,
-            brightness: h.brightness,
-            vib_phase: h.vib_phase,
-            flt_phase: h.flt_phase,
-            trem_phase: h.trem_phase,
-            trem: h.trem,
-            held: Held {
-                notes: first_made(&h.held, h.held_count, |note: u8| Note(note)),
-                count: h.held_count,
-            },
-            frames: h.frames,
-        })
     }
 }

@@ -157,7 +157,12 @@ impl From<Voice> for HostVoice {
         HostVoice {
             handle: v.handle,
             copy_count: v.copy_count,
-            copies: first_made(&v.copies, v.copy_count, HostCopy::from),
+            copies: first_made(
+                &v.copies,
+                v.copy_count,
+                HostCopy::from(v.copies[0]),
+                HostCopy::from,
+            ),
             env: v.env.into(),
             built_hz: v.built_hz,
             gain: v.gain,
@@ -175,7 +180,12 @@ impl From<&Instrument> for HostState {
     fn from(s: &Instrument) -> HostState {
         HostState {
             design: s.design.into(),
-            voices: first_made(&s.table.voices, s.table.count, HostVoice::from),
+            voices: first_made(
+                &s.table.voices,
+                s.table.count,
+                HostVoice::from(s.table.voices[0]),
+                HostVoice::from,
+            ),
             voice_count: s.table.count,
             next_handle: s.next_handle,
             sustain: s.sustain.into(),
@@ -185,7 +195,7 @@ impl From<&Instrument> for HostState {
             flt_phase: s.flt_phase,
             trem_phase: s.trem_phase,
             trem: s.trem,
-            held: first_made(&s.held.notes, s.held.count, |note: Note| note.0),
+            held: first_made(&s.held.notes, s.held.count, 0, |note: Note| note.0),
             held_count: s.held.count,
             frames: s.frames,
         }
