@@ -14,12 +14,12 @@ use Rattle.instrument.proofs.Instrument.release.Goals as goal
 pub returns-in-Err : goal.returns-in-Err
 returns-in-Err c = barred-call _ _ _ _ _ _ refl c.well_formed-2.ensures c.barred.ensures c.in-Err.is c.refused.ensures
 
-pub returns-in_default : goal.returns-in_default
+pub returns-in_default-found : goal.returns-in_default-found
 unfolding shown
-returns-in_default c =
+returns-in_default-found c =
     let fine = free-by _ _ _ c.well_formed-2.ensures c.barred.ensures c.in_default.not-Err in
     let long = voices-long c.args.self c.well_formed.0 in
-    let none = found-none c.args.self fine.counted long _ (sym (is-none _ c.in_default.not-Some) ∙ c.find_first-found.ensures (has_handle c.args.handle) (λ v b p. search rules)) in
+    let none = found-none c.args.self fine.counted long _ (sym (is-none _ c.in_default-found.not-Some) ∙ c.find_first-found.ensures (has_handle c.args.handle) (λ v b p. search rules)) in
     release-none c.args.self fine long _ _ refl _ none c.answered.ensures
 
 pub returns : goal.returns
