@@ -328,14 +328,17 @@ fn mix_outcome(h: HostState, made: Outcome<Instrument, Report>) -> HostMixOutcom
     ensures hosted { Hosts h (mix_reply_of made.reply) made.state result.reply result.state }
 {
     match made.reply {
-        Ok(report) => HostMixOutcome {
-            reply: HostReply {
-                count: report.count,
-                ..Kind::Mixed.into()
-            },
-            ended: report.ended,
-            state: HostState::from(&made.state),
-        },
+        Ok(report) => {
+            let ended = report.ended;
+            HostMixOutcome {
+                reply: HostReply {
+                    count: report.count,
+                    ..Kind::Mixed.into()
+                },
+                ended,
+                state: HostState::from(&made.state),
+            }
+        }
         Err(refusal) => unmixed(h, refusal),
     }
 }
