@@ -3,7 +3,7 @@
 
 #![tactic(auto)]
 
-ghost use Rattle.std.specs.Prelude.{◌≡◌, ℕ, Float, List, map};
+ghost use Rattle.std.specs.Prelude.{◌≡◌, ℕ, Float, List, Option, map};
 ghost use Rattle.std.specs.Bool.{Decides};
 ghost use Rattle.envelope.specs.declared.EnvGen.{EnvGen};
 ghost use Rattle.envelope.specs.declared.Stage.{Stage};

@@ -8,9 +8,9 @@ use Rattle.script.proofs.design_line.Goals as goal
 pub returns-in-Some : goal.returns-in-Some
 returns-in-Some c = design-second c.args.s _ _ _ c.unread.ensures _ _ c.in-Some.is
 
-pub returns-in_default-2 : goal.returns-in_default-2
-returns-in_default-2 c =
-    design-refused c.args.s c.args.f _ c.new-made.result _ _ _ c.in_default.is c.design.ensures c.new-made.ensures c.in_default-2.not-Ok
+pub returns-in_default-reply : goal.returns-in_default-reply
+returns-in_default-reply c =
+    design-refused c.args.s c.args.f _ c.new-made.result _ _ _ c.in_default.is c.design.ensures c.new-made.ensures c.in_default-reply.not-Ok
     (printed _ _ _ _ c.put_start-count.ensures.puts c.put_start-count.ensures.reply_len_bound c.requires)
 
 pub returns : goal.returns

@@ -1,10 +1,10 @@
-use Rattle.std.proofs.Common.{rules, arith, ◌<◌, length, ◌∙◌}
-use Rattle.std.proofs.lemmas.List.{length-set}
+use Rattle.std.proofs.Common.{arith, ◌<◌, length, sym, ◌∙◌}
+use Rattle.std.proofs.lemmas.List.{length-replicate, length-set}
 use Rattle.wire.proofs.Loops.{made-more, made-all}
 use Rattle.wire.proofs.first_made.Goals as goal
 
 pub loop-j-init : goal.loop-j-init
-loop-j-init g c = (search rules, tt)
+loop-j-init g c = (length-replicate _ _ ∙ sym c.told-items, tt)
 
 pub loop-j-preserved : goal.loop-j-preserved
 loop-j-preserved g c =
