@@ -7,14 +7,11 @@ use midi::{Answer, Cursor};
 // After each plan the block is closed by hand, so that the next plan may open one.
 pub fn plans(start: Instrument, frames: usize, turns: usize, curve: &mut [f32]) -> Instrument {
     let mut o = build::answered(start);
-    let mut i: usize = 0;
-    while i < turns {
+    for _ in 0..turns {
         o = o.state.plan(frames, 1.0, 1.0, 0.0, curve);
         o.state.frames = 0;
-        i += 1;
     }
-    let s = o.state;
-    s
+    o.state
 }
 
 // Before each mix the block is opened by hand.
@@ -30,26 +27,23 @@ pub fn mixes(
         ended: [0; 64],
         state: start,
     };
-    let mut i: usize = 0;
-    while i < turns {
+    for _ in 0..turns {
         o.state.frames = frames;
         o = o.state.mix(samples, out);
-        i += 1;
     }
-    let s = o.state;
-    s
+    o.state
 }
 
 fn told(sum: u64, answer: Answer) -> u64 {
     match answer {
-        Answer::On(note, velocity) => kind(kind(sum, 1, note as u64), 1, sums::bits(velocity)),
-        Answer::Off(note) => kind(sum, 2, note as u64),
-        Answer::Pedal(down) => kind(sum, 3, sums::flag(down)),
+        Answer::On(note, velocity) => kind(kind(sum, 1, u64::from(note)), 1, sums::bits(velocity)),
+        Answer::Off(note) => kind(sum, 2, u64::from(note)),
+        Answer::Pedal(down) => kind(sum, 3, u64::from(down)),
         Answer::AllOff => kind(sum, 4, 0),
-        Answer::Bend(b) => kind(sum, 5, b as u64),
+        Answer::Bend(b) => kind(sum, 5, u64::from(b)),
         Answer::Other => kind(sum, 6, 0),
         Answer::End => kind(sum, 7, 0),
-        Answer::Refused(n) => kind(sum, 8, n as u64),
+        Answer::Refused(n) => kind(sum, 8, u64::from(n)),
     }
 }
 
@@ -64,8 +58,7 @@ fn stream(start: u64, bytes: &[u8]) -> u64 {
         place: 0,
         status: 0,
     };
-    let mut i: usize = 0;
-    while i < bytes.len() {
+    for _ in bytes {
         let o = midi::step(bytes, cursor);
         let answer = o.answer;
         sum = told(sum, answer);
@@ -73,17 +66,14 @@ fn stream(start: u64, bytes: &[u8]) -> u64 {
             return sum;
         }
         cursor = o.cursor;
-        i += 1;
     }
     sum
 }
 
 pub fn streams(bytes: &[u8], turns: usize) -> u64 {
-    let mut sum: u64 = 0;
-    let mut i: usize = 0;
-    while i < turns {
+    let mut sum = 0;
+    for _ in 0..turns {
         sum = stream(sum, bytes);
-        i += 1;
     }
     sum
 }
