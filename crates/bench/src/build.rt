@@ -40,9 +40,7 @@ fn design(size: Size, mode: PlayMode) -> InstrumentDesign {
 }
 
 fn start(size: Size, mode: PlayMode) -> Instrument {
-    let new = Instrument::new(design(size, mode));
-    let s = new.state;
-    s
+    Instrument::new(design(size, mode)).state
 }
 
 // The notes go round from 36 to 96.
@@ -56,39 +54,41 @@ pub fn answered(state: Instrument) -> Outcome<Instrument, Reply> {
 }
 
 pub fn on(s: Instrument, note: u8) -> Instrument {
-    let o = s.note_on(note, 0.75, true);
-    let t = o.state;
-    t
+    s.note_on(note, 0.75, true).state
 }
 
 pub fn all_off(s: Instrument) -> Instrument {
-    let o = s.all_notes_off();
-    let t = o.state;
-    t
+    s.all_notes_off().state
 }
 
-fn strikes(start: Instrument, n: usize) -> Instrument {
+// A change of a state again and again, told its turn's note.
+fn rounds<F: Fn(Instrument, u8) -> Instrument>(start: Instrument, n: usize, change: F) -> Instrument
+    requires { F.IsAlwaysCallable change }
+{
     let mut s = start;
-    let mut note: u8 = 36;
-    let mut i: usize = 0;
-    while i < n {
-        s = on(s, note);
+    let mut note = 36;
+    for _ in 0..n {
+        s = change(s, note);
         note = next_note(note);
-        i += 1;
     }
     s
 }
 
+fn strikes(s: Instrument, n: usize) -> Instrument {
+    rounds(s, n, on)
+}
+
+// Each strikes a voice, gives it another note and releases it.
+fn glides(s: Instrument, n: usize) -> Instrument {
+    rounds(s, n, |s, note| all_off(on(on(s, note), 97)))
+}
+
 fn open(s: Instrument, curve: &mut [f32]) -> Instrument {
-    let o = s.plan(2, 1.0, 1.0, 0.0, curve);
-    let t = o.state;
-    t
+    s.plan(2, 1.0, 1.0, 0.0, curve).state
 }
 
 fn close(s: Instrument, samples: &[f32], out: &mut [f32]) -> Instrument {
-    let o = s.mix(samples, out);
-    let t = o.state;
-    t
+    s.mix(samples, out).state
 }
 
 // A block of 2 frames. The curve serves as the samples.
@@ -109,17 +109,4 @@ pub fn table(size: Size, half: &mut [f32], whole: &mut [f32], four: &mut [f32]) 
 pub fn gliding(size: Size) -> Instrument {
     let s = glides(start(size, PlayMode::Mono { legato: false }), size.first);
     glides(s, size.second)
-}
-
-fn glides(start: Instrument, n: usize) -> Instrument {
-    let mut s = start;
-    let mut note: u8 = 36;
-    let mut i: usize = 0;
-    while i < n {
-        s = on(on(s, note), 97);
-        s = all_off(s);
-        note = next_note(note);
-        i += 1;
-    }
-    s
 }

@@ -33,7 +33,7 @@ pub extern "C" fn bench_plan(
     };
     let s = build::table(size, half, whole, four);
     let t = rounds::plans(s, frames, turns, curve);
-    sums::floats(sums::table(t), curve)
+    sums::floats(sums::table(&t), curve)
 }
 
 // Plan where every copy glides.
@@ -54,7 +54,7 @@ pub extern "C" fn bench_glide(
         second,
     };
     let t = rounds::plans(build::gliding(size), frames, turns, curve);
-    sums::floats(sums::table(t), curve)
+    sums::floats(sums::table(&t), curve)
 }
 
 // Mix of `frames` frames, from the same samples every time.
@@ -80,7 +80,7 @@ pub extern "C" fn bench_mix(
     };
     let s = build::table(size, half, whole, four);
     let t = rounds::mixes(s, frames, turns, samples, out);
-    sums::floats(sums::table(t), out)
+    sums::floats(sums::table(&t), out)
 }
 
 // One of the event calls, by number (`events::rounds`).

@@ -8,14 +8,11 @@ use outcome::{Outcome, Refusal};
 // After each plan the block is closed by hand, so that the next plan may open one.
 pub fn plans(start: Instrument, frames: usize, turns: usize, curve: &mut [f32]) -> Instrument {
     let mut o = build::answered(start);
-    let mut i: usize = 0;
-    while i < turns {
+    for _ in 0..turns {
         o = o.state.plan(frames, 1.0, 1.0, 0.0, curve);
         o.state.frames = 0;
-        i += 1;
     }
-    let s = o.state;
-    s
+    o.state
 }
 
 // Before each mix the block is opened by hand.
@@ -26,39 +23,34 @@ pub fn mixes(
     samples: &[f32],
     out: &mut [f32],
 ) -> Instrument {
-    let mut o = Outcome::answered(
-        start,
-        Report {
-            count: 0,
-            ended: [0; 64],
-        },
-    );
-    let mut i: usize = 0;
-    while i < turns {
+    let nobody = Report {
+        count: 0,
+        ended: [0; 64],
+    };
+    let mut o = Outcome::answered(start, nobody);
+    for _ in 0..turns {
         o.state.frames = frames;
         o = o.state.mix(samples, out);
-        i += 1;
     }
-    let s = o.state;
-    s
+    o.state
+}
+
+fn told_event(sum: u64, event: Event) -> u64 {
+    match event {
+        Event::On(note, velocity) => kind(kind(sum, 1, u64::from(note)), 1, sums::bits(velocity)),
+        Event::Off(note) => kind(sum, 2, u64::from(note)),
+        Event::Pedal(down) => kind(sum, 3, u64::from(down)),
+        Event::AllOff => kind(sum, 4, 0),
+        Event::Bend(b) => kind(sum, 5, u64::from(b)),
+        Event::Other => kind(sum, 6, 0),
+    }
 }
 
 fn told(sum: u64, reply: Result<Option<Event>, Refusal>) -> u64 {
     match reply {
         Ok(Some(event)) => told_event(sum, event),
         Ok(None) => kind(sum, 7, 0),
-        Err(refusal) => kind(sum, 8, refusal.number() as u64),
-    }
-}
-
-fn told_event(sum: u64, event: Event) -> u64 {
-    match event {
-        Event::On(note, velocity) => kind(kind(sum, 1, note as u64), 1, sums::bits(velocity)),
-        Event::Off(note) => kind(sum, 2, note as u64),
-        Event::Pedal(down) => kind(sum, 3, sums::flag(down)),
-        Event::AllOff => kind(sum, 4, 0),
-        Event::Bend(b) => kind(sum, 5, b as u64),
-        Event::Other => kind(sum, 6, 0),
+        Err(refusal) => kind(sum, 8, u64::from(refusal.number())),
     }
 }
 
@@ -82,11 +74,9 @@ fn stream(start: u64, bytes: &[u8]) -> u64 {
 }
 
 pub fn streams(bytes: &[u8], turns: usize) -> u64 {
-    let mut sum: u64 = 0;
-    let mut i: usize = 0;
-    while i < turns {
+    let mut sum = 0;
+    for _ in 0..turns {
         sum = stream(sum, bytes);
-        i += 1;
     }
     sum
 }
