@@ -329,10 +329,11 @@ fn mix_outcome(h: HostState, made: Outcome<Instrument, Report>) -> HostMixOutcom
 {
     match made.reply {
         Ok(report) => {
+            let count = report.count;
             let ended = report.ended;
             HostMixOutcome {
                 reply: HostReply {
-                    count: report.count,
+                    count,
                     ..Kind::Mixed.into()
                 },
                 ended,

@@ -1,3 +1,4 @@
+use mathlib.Core.Path.{refl}
 use Rattle.host.proofs.Laws.{hosts-refused, hosts-written}
 use Rattle.host.proofs.outcome.Goals as goal
 
