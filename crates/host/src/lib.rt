@@ -213,10 +213,7 @@ fn refused(h: HostState, refusal: Refusal) -> HostOutcome
 }
 
 // The call on the state that the numbers stand for; numbers that stand for none are refused.
-fn hosted<F: FnOnce(Instrument) -> Outcome<Instrument, Reply>>(
-    h: HostState,
-    call: F,
-) -> HostOutcome
+fn hosted<F: FnOnce(Instrument) -> Outcome<Instrument, Reply>>(h: HostState, call: F) -> HostOutcome
     requires { F.IsAlwaysCallable call }
     ensures { HostedBy (F.post call) h result }
 {

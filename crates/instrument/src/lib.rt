@@ -189,9 +189,7 @@ impl Instrument {
         let reply = design.accepted();
         match reply {
             Ok(()) => Outcome::answered(Instrument::empty(design, 1, 1.0), ()),
-            Err(refusal) => {
-                Outcome::refused(Instrument::empty(zero_design(), 0, 0.0), refusal)
-            }
+            Err(refusal) => { Outcome::refused(Instrument::empty(zero_design(), 0, 0.0), refusal) }
         }
     }
 }
