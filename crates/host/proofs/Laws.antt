@@ -188,7 +188,8 @@ as-flag false n e = e
 
 -- ---- the start
 
-pub begun : (d : InstrumentDesign) (n : gave.Outcome Instrument (Unit {0})) (t : HostState) (r : HostReply) → StartAs d n → WrittenFrom n.state t → r ≡ said_start n.reply → BegunAs d (record { reply = r; state = t })
+pub begun : (d : InstrumentDesign) (n : gave.Outcome Instrument (Unit {0})) (t : HostState)
+    (r : HostReply) → StartAs d n → WrittenFrom n.state t → r ≡ said_start n.reply → BegunAs d (record { reply = r; state = t })
 begun d n t r a w q = record { reply = q ∙ ap said_start a.reply; numbered = w.numbered ∙ a.in_room; state = w.model ∙ a.state }
 
 pub started : (d : HostDesign) (r : HostOutcome) → mode_numbered d ≡ true → BegunAs (design_of d) r → HostStartAs d r

@@ -11,7 +11,8 @@ loop-i-preserved g c =
     let t = c.args.self in
     let low = next-le c.loop-i.i c.loop-i.best c.test.result c.quieter-under.result c.loop-i.invariant.0 in (
       omega (arith, low, c.quietest_next-best.ensures),
-      λ p d. best-turn t (voices-long t c.well_formed.0) _ c.loop-i.best c.loop-i.i _ _ _ (c.loop-i.invariant.1 p d) (omega arith) (d _ _ c.test.ensures) c.quieter-under.ensures c.quietest_next-best.ensures,
+      λ p d. best-turn t (voices-long t c.well_formed.0) _ c.loop-i.best c.loop-i.i _ _ _ (c.loop-i.invariant.1 p d) (omega arith)
+          (d _ _ c.test.ensures) c.quieter-under.ensures c.quietest_next-best.ensures,
     )
 
 pub returns : goal.returns
