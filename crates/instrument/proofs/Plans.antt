@@ -131,7 +131,7 @@ module _ (s : Instrument) (n : ℕ) (vibrato filter sine : Float) where
   unfolding applied phase_after view
   applies r v f t d a b c u ev ef et ed ea eb ec e q =
       let g : with_copies (wobble_of s.design.modulation (mul binary32 s.bend v) (mul binary32 s.brightness f)) ≡ with_copies (wobbled (view s)
-          (vibrato_factor s.design.modulation vibrato) (filter_factor s.design.modulation filter)) = rw (ev, ef) (wobble-is s _ _) in
+      (vibrato_factor s.design.modulation vibrato) (filter_factor s.design.modulation filter)) = rw (ev, ef) (wobble-is s _ _) in
       rw (q, ea, eb, ec, et, ed) (moved-stands s _ u (rw g at e) _ _ _ _)
 
   pub modulated-on : (r : Instrument) → modulated s.design.modulation ≡ true → StandsFor s (applied (view s) n vibrato filter sine) r → ModulatedAs s n vibrato filter sine r

@@ -90,8 +90,16 @@ returns-then-not-ends c =
 
 pub returns : goal.returns
 returns c =
-    line-some design_text DesignFits _ _ _ (as_form _ _ _ _ _ _ design_same AtEnd _ _ (c.in_ok-rate.rate, (c.in_ok-max.max, (c.in_ok-mode.mode,
-        (c.in_ok-unison.unison, (c.in_ok-width.width, (c.in_ok-amp.amp, (c.in_ok-glide.glide, (c.in_ok-modulation.modulation, tt)))))))) _
+    line-some design_text DesignFits _ _ _ (as_form _ _ _ _ _ _ design_same AtEnd _ _ (
+      c.in_ok-rate.rate,
+      (
+        c.in_ok-max.max,
+        (
+          c.in_ok-mode.mode,
+          (c.in_ok-unison.unison, (c.in_ok-width.width, (c.in_ok-amp.amp, (c.in_ok-glide.glide, (c.in_ok-modulation.modulation, tt))))),
+        ),
+      ),
+    ) _
     (and_then _ _ _ _ _ _ _ _ _ _ _ _ c.in_ok-rate.ensures
     (and_then _ _ _ _ _ _ _ _ _ _ _ _ c.in_ok-max.ensures
     (and_then _ _ _ _ _ _ _ _ _ _ _ _ c.in_ok-mode.ensures

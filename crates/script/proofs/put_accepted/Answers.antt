@@ -7,7 +7,7 @@ use Rattle.script.proofs.put_accepted.Goals as goal
 pub returns-in-Started : goal.returns-in-Started
 returns-in-Started c =
     let e = c.put_started.ensures in rw (c.in-Started.is, ← c.unwrap_or.ensures, ← c.unwrap_or-in-Started.ensures)
-        (record { puts = e.puts; reply_len_bound = omega (arith, e.taken_len_bound) })
+    (record { puts = e.puts; reply_len_bound = omega (arith, e.taken_len_bound) })
 
 pub returns-in-Silent : goal.returns-in-Silent
 returns-in-Silent c = let e = c.put_one.ensures in rw c.in-Silent.is (record { puts = e.puts; reply_len_bound = omega (arith, e.n_in_bounds) })

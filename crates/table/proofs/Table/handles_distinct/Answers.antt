@@ -20,15 +20,17 @@ pub returns-then-count_of-gt1 : goal.returns-then-count_of-gt1
 unfolding shown
 returns-then-count_of-gt1 c =
     counted-twice (voices_in c.args.self) _ _ (c.count_of.ensures (has_handle (get_or c.args.self.voices c.loop-i.i past_end).handle)
-        (λ v b p. search rules)) c.if-count_of-gt1.true
+    (λ v b p. search rules)) c.if-count_of-gt1.true
 
 pub loop-i-preserved : goal.loop-i-preserved
 unfolding shown
 loop-i-preserved c =
     let t = c.args.self in
-    let same = handles-at t (voices-long t c.well_formed.0) c.loop-i.i (omega arith) in
-    (omega arith, below_more (Once t) c.loop-i.i c.loop-i.invariant.1 (counted-once (voices_in t) _ _ _ same (c.count_of.ensures (has_handle
-        (get_or c.args.self.voices c.loop-i.i past_end).handle) (λ v b p. search rules)) c.if-count_of-gt1.false))
+    let same = handles-at t (voices-long t c.well_formed.0) c.loop-i.i (omega arith) in (
+      omega arith,
+      below_more (Once t) c.loop-i.i c.loop-i.invariant.1 (counted-once (voices_in t) _ _ _ same (c.count_of.ensures (has_handle
+          (get_or c.args.self.voices c.loop-i.i past_end).handle) (λ v b p. search rules)) c.if-count_of-gt1.false),
+    )
 
 pub returns : goal.returns
 returns c =
