@@ -6,7 +6,7 @@
 mod words;
 
 use design::{Adsr, InstrumentDesign, Modulation, PlayMode};
-use envelope::{EnvGen, Stage};
+use envelope::EnvGen;
 use outcome::Refusal;
 use std::io;
 use std::io::{ErrorKind, Read};
@@ -31,34 +31,20 @@ fn start() -> Leaf {
     }
 }
 
-fn flag(b: bool) -> u32 {
-    if b { 1 } else { 0 }
-}
-
-fn stage_number(e: EnvGen) -> u32 {
-    match e.stage {
-        Stage::Idle => 0,
-        Stage::Attack => 1,
-        Stage::Decay => 2,
-        Stage::Sustain => 3,
-        Stage::Release => 4,
-    }
-}
-
 // The first word is a reply's number or a sum.
-fn say_env(rt: &impl Print, letter: u8, first: u32, e: EnvGen) -> io::Result<()> {
+fn say_env(rt: &impl Print, letter: char, first: u32, e: EnvGen) -> io::Result<()> {
     let level = float32::to_bits(e.level());
     let from = float32::to_bits(e.rel_from);
-    let faded = flag(e.faded());
-    let active = flag(e.active());
+    let faded = u32::from(e.faded());
+    let active = u32::from(e.active());
     say(
         rt,
         letter,
-        [first, stage_number(e), level, from, faded, active, 0, 0],
+        [first, e.stage as u32, level, from, faded, active, 0, 0],
     )
 }
 
-fn say_copy(rt: &impl Print, letter: u8, c: UnisonCopy) -> io::Result<()> {
+fn say_copy(rt: &impl Print, letter: char, c: UnisonCopy) -> io::Result<()> {
     let l = float32::to_bits(c.l);
     let r = float32::to_bits(c.r);
     let pitch = float32::to_bits(c.pitch);
@@ -77,7 +63,7 @@ fn say_copy(rt: &impl Print, letter: u8, c: UnisonCopy) -> io::Result<()> {
 // N: the frequency of a note.
 fn note_line(rt: &impl Print, s: &[u8]) -> io::Result<()> {
     let n = note::Note((field(s, 0) % 256) as u8);
-    say(rt, b'N', [float32::to_bits(n.freq()), 0, 0, 0, 0, 0, 0, 0])
+    say(rt, 'N', [float32::to_bits(n.freq()), 0, 0, 0, 0, 0, 0, 0])
 }
 
 // X: what float32 makes of two floats.
@@ -85,21 +71,21 @@ fn float_line(rt: &impl Print, s: &[u8]) -> io::Result<()> {
     let a = float(s, 0);
     let b = float(s, 1);
     let fract = float32::to_bits(float32::fract(a));
-    let below = flag(float32::total_below(a, b));
+    let below = u32::from(float32::total_below(a, b));
     let max = float32::to_bits(float32::max(a, b));
     let min = float32::to_bits(float32::min(a, b));
     let level = float32::to_bits(float32::clamp(a, 0.0, 1.0));
     let pan = float32::to_bits(float32::clamp(a, -1.0, 1.0));
-    let nan = flag(float32::is_nan(a));
-    let finite = flag(float32::is_finite(a));
-    say(rt, b'X', [fract, below, max, min, level, pan, nan, finite])
+    let nan = u32::from(float32::is_nan(a));
+    let finite = u32::from(float32::is_finite(a));
+    say(rt, 'X', [fract, below, max, min, level, pan, nan, finite])
 }
 
 // The number of a refusal, 0 where nothing is refused.
 fn refusal_number(reply: Result<(), Refusal>) -> u32 {
     match reply {
         Ok(_) => 0,
-        Err(reason) => reason.number() as u32,
+        Err(reason) => u32::from(reason.number()),
     }
 }
 
@@ -114,7 +100,7 @@ fn env_line(rt: &impl Print, leaf: Leaf, s: &[u8]) -> io::Result<Leaf> {
     let new = EnvGen::new(amp.a, amp.d, amp.s, amp.r, field(s, 4));
     let env = new.state;
     let reply = new.reply;
-    say_env(rt, b'E', refusal_number(reply), env)?;
+    say_env(rt, 'E', refusal_number(reply), env)?;
     let copy = leaf.copy;
     let modulation = leaf.modulation;
     Ok(Leaf {
@@ -125,6 +111,7 @@ fn env_line(rt: &impl Print, leaf: Leaf, s: &[u8]) -> io::Result<Leaf> {
     })
 }
 
+// By the line's number.
 fn gated(e: EnvGen, kind: u32) -> EnvGen {
     match kind {
         0 => e.gate_on(),
@@ -137,7 +124,7 @@ fn gated(e: EnvGen, kind: u32) -> EnvGen {
 fn gate_line(rt: &impl Print, mut leaf: Leaf, s: &[u8]) -> io::Result<Leaf> {
     let before = leaf.env;
     let e = gated(before, field(s, 0));
-    say_env(rt, b'G', 0, e)?;
+    say_env(rt, 'G', 0, e)?;
     leaf.env = e;
     Ok(leaf)
 }
@@ -168,13 +155,13 @@ fn tick_line(rt: &impl Print, mut leaf: Leaf, s: &[u8]) -> io::Result<Leaf> {
     let before = leaf.env;
     let t = ticks(before, field(s, 0));
     let e = t.env;
-    say_env(rt, b'T', t.sum, e)?;
+    say_env(rt, 'T', t.sum, e)?;
     leaf.env = e;
     Ok(leaf)
 }
 
 // Says a copy and keeps it.
-fn copied(rt: &impl Print, mut leaf: Leaf, letter: u8, copy: UnisonCopy) -> io::Result<Leaf> {
+fn copied(rt: &impl Print, mut leaf: Leaf, letter: char, copy: UnisonCopy) -> io::Result<Leaf> {
     say_copy(rt, letter, copy)?;
     leaf.copy = copy;
     Ok(leaf)
@@ -193,7 +180,7 @@ fn say_eight(rt: &impl Print, part: &[f32]) -> io::Result<()> {
     for (word, x) in words.iter_mut().zip(part) {
         *word = float32::to_bits(*x);
     }
-    say(rt, b'l', words)
+    say(rt, 'l', words)
 }
 
 fn say_curve(rt: &impl Print, curve: &[f32]) -> io::Result<()> {
@@ -226,7 +213,7 @@ fn glided_part(
 fn glide_line(rt: &impl Print, leaf: Leaf, s: &[u8]) -> io::Result<Leaf> {
     let mut curve = [0f32; 1024];
     let c = glided_part(rt, leaf.copy, &mut curve, field(s, 0) as usize)?;
-    copied(rt, leaf, b'L', c)
+    copied(rt, leaf, 'L', c)
 }
 
 // M: whether six settings modulate.
@@ -239,7 +226,7 @@ fn modulation_line(rt: &impl Print, mut leaf: Leaf, s: &[u8]) -> io::Result<Leaf
         filter_rate: float(s, 4),
         filter_octaves: float(s, 5),
     };
-    say(rt, b'M', [flag(m.is_active()), 0, 0, 0, 0, 0, 0, 0])?;
+    say(rt, 'M', [u32::from(m.is_active()), 0, 0, 0, 0, 0, 0, 0])?;
     leaf.modulation = m;
     Ok(leaf)
 }
@@ -260,25 +247,26 @@ fn design_line(rt: &impl Print, leaf: Leaf, s: &[u8]) -> io::Result<()> {
     };
     say(
         rt,
-        b'D',
+        'D',
         [refusal_number(d.accepted()), d.copies(), 0, 0, 0, 0, 0, 0],
     )
 }
 
 fn step(rt: &impl Print, leaf: Leaf, letter: u8, s: &[u8]) -> io::Result<Leaf> {
+    // The letters and numbers are those of the lines.
     match letter {
         b'E' => env_line(rt, leaf, s),
         b'G' => gate_line(rt, leaf, s),
         b'T' => tick_line(rt, leaf, s),
-        b'C' => copied(rt, leaf, letter, new_copy(s)),
+        b'C' => copied(rt, leaf, 'C', new_copy(s)),
         b'P' => copied(
             rt,
             leaf,
-            letter,
+            'P',
             leaf.copy.glide_pitch(float(s, 0), float(s, 1)),
         ),
-        b'B' => copied(rt, leaf, letter, leaf.copy.set_bend(float(s, 0))),
-        b'F' => copied(rt, leaf, letter, leaf.copy.set_cutoff(float(s, 0))),
+        b'B' => copied(rt, leaf, 'B', leaf.copy.set_bend(float(s, 0))),
+        b'F' => copied(rt, leaf, 'F', leaf.copy.set_cutoff(float(s, 0))),
         b'L' => glide_line(rt, leaf, s),
         b'M' => modulation_line(rt, leaf, s),
         b'D' => {
