@@ -1,5 +1,5 @@
 -- What a method promises of its reply and its state is a step of the view.
-use mathlib.Core.Path.{◌≡◌, ap, sym, ◌∙◌}
+use mathlib.Core.Path.{◌≡◌, sym, ◌∙◌}
 use mathlib.Core.Bool.{true}
 use Rattle.lists.specs.Choose.{cond-true}
 use Rattle.design.specs.Accepted.{is_accepted}
@@ -8,7 +8,7 @@ use Rattle.model.specs.Step.{refusal, step}
 use Rattle.model.specs.Start.{fresh, zero_state, start_of}
 use Rattle.instrument.specs.declared.Instrument.{Instrument}
 use Rattle.instrument.specs.View.{view, counted}
-use Rattle.instrument.specs.Calls.{start_reply, refusal_of, reply_to, StepAs}
+use Rattle.instrument.specs.Calls.{refusal_of, reply_to, StepAs}
 use Rattle.instrument.proofs.Parts.{accepted-yes}
 use Rattle.account.specs.Methods.{code, HandleAccount}
 use Rattle.account.proofs.Account.{Steps, steps, account-of}
@@ -29,6 +29,6 @@ module _ (s : Instrument) (room : counted s ≡ true) (c : Call) (said : Reply) 
 pub code-account : HandleAccount
 unfolding HandleAccount start_of
 code-account d r a y xs g =
-    let e : is_accepted d ≡ true = sym (accepted-yes d (sym a.reply ∙ ap start_reply y)) in
+    let e : is_accepted d ≡ true = sym (accepted-yes d (sym a.reply ∙ y)) in
     let v : view r.state ≡ fresh d = a.state ∙ cond-true (is_accepted d) (fresh d) zero_state e in
     account-of code code-steps d e r.state a.in_room v xs g
