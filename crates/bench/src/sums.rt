@@ -1,7 +1,6 @@
 // Sums over what was computed. A step is 3 × sum + x, so that every term stays in it.
 
 use instrument::Instrument;
-use lists::smaller;
 use voice::Voice;
 
 pub fn add(sum: u64, x: u64) -> u64 {
@@ -35,6 +34,6 @@ fn voice(sum: u64, v: &Voice) -> u64 {
 // The voices of a state, each with its first copy.
 pub fn table(s: &Instrument) -> u64 {
     let t = &s.table;
-    let n = smaller(t.count, 64);
+    let n = t.count.min(64);
     t.voices[..n].iter().fold(n as u64, voice)
 }

@@ -10,7 +10,6 @@ ghost use Rattle.levels.specs.Filled.{FilledAs};
 ghost use Rattle.levels.specs.Runs.{loud, RunAs, slope_of, Steps};
 
 use envelope::{EnvGen, Stage};
-use lists::smaller;
 
 // The envelope behind the frames, and the levels of the frames with zeros behind them.
 #[derive(Clone, Copy)]
@@ -113,7 +112,7 @@ pub fn fill(e: EnvGen, gain: f32, trem: f32, m: usize) -> Filled
     ensures { FilledAs e gain trem m result }
 {
     let by = Loudness { gain, trem };
-    let n = smaller(m, 64);
+    let n = m.min(64);
     let mut levels = [0.0f32; 64];
     let mut env = e;
     let mut f: usize = 0;

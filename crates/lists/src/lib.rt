@@ -2,15 +2,8 @@
 
 #![tactic(auto)]
 
-ghost use Rattle.std.specs.Prelude.{◌≡◌, ◌*◌, min, eqb};
+ghost use Rattle.std.specs.Prelude.{◌≡◌, ◌*◌, eqb};
 ghost use Rattle.lists.specs.Changed.{FirstChanged};
-
-// The smaller of two sizes: a pass never leaves its array.
-pub fn smaller(a: usize, b: usize) -> usize
-    ensures { result ≡ min a b }
-{
-    a.min(b)
-}
 
 // Whether rows of `frames` numbers fill `len` places. The product always fits at twice the width.
 pub fn fills(frames: usize, rows: usize, len: usize) -> bool
@@ -24,7 +17,7 @@ pub fn change_first<A: Copy, F: Fn(A) -> A>(items: &mut [A], n: usize, change: F
     requires { F.IsAlwaysCallable change }
     ensures { FirstChanged (F.post change) n items.old items.new }
 {
-    let end = smaller(n, items.len());
+    let end = n.min(items.len());
     for item in &mut items[..end] {
         *item = change(*item);
     }

@@ -11,7 +11,7 @@ ghost use Rattle.render.specs.Parts.{part_copy, framed, PartFits, BothSides};
 ghost use Rattle.render.specs.Mixes.{Fits, AddedAs, added_voice, with_env, FitsOut, PutAs, goes_on};
 
 use envelope::EnvGen;
-use lists::{fills, smaller};
+use lists::fills;
 use stream::UnisonCopy;
 use voice::Voice;
 
@@ -119,7 +119,7 @@ fn add_parts(
     let mut e = v.env;
     let mut a: usize = 0;
     while a < n {
-        let m = smaller(n - a, 64);
+        let m = (n - a).min(64);
         let end = a + m;
         let filled = levels::fill(e, v.gain, trem, m);
         add_copies(

@@ -5,7 +5,6 @@ ghost use Rattle.std.specs.Prelude.{◌≤◌};
 use crate::ask::{Lend, Mix, Plan};
 use crate::{Session, said};
 use instrument::Instrument;
-use lists::smaller;
 use outcome::Refusal;
 use patterns::{Page, bits, sums};
 
@@ -115,7 +114,7 @@ impl Session {
         self.instrument = o.state;
         match o.reply {
             Ok(report) => {
-                let ended = &report.ended[..smaller(report.count, 64)];
+                let ended = &report.ended[..report.count.min(64)];
                 self.mixed(page, stereo, ended)
             }
             Err(refusal) => refused(page, refusal, stereo),

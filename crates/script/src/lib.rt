@@ -15,7 +15,6 @@ ghost use Rattle.script.specs.Lines.{Puts, call_of, NoDesign, Stays, DesignDoes,
 
 use forms::{DesignForm, Form, OnForm};
 use instrument::{Instrument, Reply};
-use lists::smaller;
 use outcome::Refusal;
 use voice::Voice;
 
@@ -125,7 +124,7 @@ fn put_rows(vs: [Voice; 64], n: usize, out: &mut [u8]) -> usize
     ensures puts { Puts (rows_text (voices_of (seen_first n vs))) out.old 0 out.new result }
     ensures vs_len_bound { length (rows_text (voices_of (seen_first n vs))) ≤ 3655 }
 {
-    let seen = &vs[..smaller(n, 64)];
+    let seen = &vs[..n.min(64)];
     let mut next = text::put_literal(out, 0, b"(voices");
     for v in seen {
         next = put_row(out, next, *v);

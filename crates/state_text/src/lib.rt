@@ -3,7 +3,6 @@
 #![tactic(auto)]
 
 use instrument::Instrument;
-use lists::smaller;
 use patterns::{Page, bits};
 use stream::UnisonCopy;
 use voice::Voice;
@@ -26,7 +25,7 @@ fn copy(page: &mut Page, c: &UnisonCopy) {
 
 fn copies(page: &mut Page, v: &Voice) {
     page.put(b" (D", &[v.handle]);
-    for c in &v.copies[..smaller(v.copy_count, 8)] {
+    for c in &v.copies[..v.copy_count.min(8)] {
         copy(page, c);
     }
     page.put(b")", &[]);
@@ -45,7 +44,7 @@ fn row(page: &mut Page, v: &Voice) {
 
 fn shown(s: &Instrument) -> &[Voice] {
     let table = &s.table;
-    &table.voices[..smaller(table.count, 64)]
+    &table.voices[..table.count.min(64)]
 }
 
 // The table, a row a voice.
@@ -68,7 +67,7 @@ pub fn every_copy(page: &mut Page, s: &Instrument) {
 
 fn held(page: &mut Page, s: &Instrument) {
     let held = &s.held;
-    let notes = &held.notes[..smaller(held.count, 256)];
+    let notes = &held.notes[..held.count.min(256)];
     page.put_list(b'D', notes, |note| u64::from(note.0));
 }
 

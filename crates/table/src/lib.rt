@@ -14,7 +14,7 @@ ghost use Rattle.voice.specs.Changes.{on_seen, Tells, Makes};
 ghost use Rattle.table.specs.View.{seen_in, voices_in, place_in, changed_at, Holds};
 ghost use Rattle.table.specs.Room.{reached as reached_of, AddedAs};
 
-use lists::{change_first, smaller};
+use lists::change_first;
 use voice::Voice;
 
 mod check;
@@ -85,7 +85,7 @@ impl Table {
         requires { F.IsAlwaysCallable test }
         ensures { (t : _) → Tells (F.post test) t → result ≡ count t (voices_in self) }
     {
-        let end = smaller(self.count, 64);
+        let end = self.count.min(64);
         self.voices[..end].iter().filter(|v| test(**v)).count()
     }
 
@@ -94,7 +94,7 @@ impl Table {
         requires { F.IsAlwaysCallable test }
         ensures { (t : _) → Tells (F.post test) t → result ≡ place_in (find_at t (voices_in self)) (voices_in self) }
     {
-        let end = smaller(self.count, 64);
+        let end = self.count.min(64);
         self.voices[..end].iter().position(|v| test(*v))
     }
 
@@ -103,7 +103,7 @@ impl Table {
         requires { F.IsAlwaysCallable test }
         ensures { (t : _) → Tells (F.post test) t → result ≡ place_in (last_at t (voices_in self)) (voices_in self) }
     {
-        let end = smaller(self.count, 64);
+        let end = self.count.min(64);
         for i in (0..end).rev() {
             if test(self.voices[i]) {
                 return Some(i);
@@ -116,7 +116,7 @@ impl Table {
     pub fn handle_at(self, place: usize) -> u64
         ensures { result ≡ handle_at place (voices_in self) }
     {
-        if place < smaller(self.count, 64) {
+        if place < self.count.min(64) {
             let v = self.voices[place];
             return v.handle;
         }
@@ -128,7 +128,7 @@ impl Table {
         requires { F.IsAlwaysCallable test }
         ensures { (t : _) → Tells (F.post test) t → result ≡ lowest no_voice quieter_of t (voices_in self) }
     {
-        let end = smaller(self.count, 64);
+        let end = self.count.min(64);
         let mut best: usize = 0;
         for i in 0..end {
             let v = self.voices[i];
@@ -157,7 +157,7 @@ impl Table {
         requires { F.IsAlwaysCallable change }
         ensures { (g : _) → Makes (F.post change) g → Holds (changed_at g place (seen_in self)) result }
     {
-        self.count = smaller(self.count, 64);
+        self.count = self.count.min(64);
         if place < self.count {
             self.voices[place] = change(self.voices[place]);
         }
@@ -169,7 +169,7 @@ impl Table {
         requires { F.IsAlwaysCallable change }
         ensures { (g : _) → Makes (F.post change) g → Holds (map (on_seen g) (seen_in self)) result }
     {
-        let count = smaller(self.count, 64);
+        let count = self.count.min(64);
         self.count = count;
         change_first(&mut self.voices, count, change);
         self
@@ -179,7 +179,7 @@ impl Table {
     pub fn push(mut self, voice: Voice) -> Table
         ensures { Holds (take 64 (seen_in self ++ (seen voice ∷ []))) result }
     {
-        let end = smaller(self.count, 64);
+        let end = self.count.min(64);
         self.count = end;
         if end < 64 {
             self.voices[end] = voice;
@@ -193,7 +193,7 @@ impl Table {
     pub fn add(mut self, voice: Voice, max: u32) -> Added
         ensures { AddedAs max self voice result }
     {
-        self.count = smaller(self.count, 64);
+        self.count = self.count.min(64);
         let most = max as usize;
         let mut killed: u64 = 0;
         if reached(self.count_of(|v| !v.releasing), most) {

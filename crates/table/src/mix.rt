@@ -4,7 +4,6 @@ ghost use Rattle.std.specs.Prelude.{◌≡◌, set};
 ghost use Rattle.table.specs.Mixes.{MixedTable};
 
 use crate::Table;
-use lists::smaller;
 
 // A handle in the report, where it has that place.
 fn report(handle: u64, place: usize, ended: &mut [u64])
@@ -31,15 +30,15 @@ impl Table {
         ensures { MixedTable frames trem self samples.now left.old right.old ended.old
             left.new right.new ended.new result }
     {
-        let n = smaller(frames, 1024);
-        let count = smaller(self.count, 64);
+        let n = frames.min(1024);
+        let count = self.count.min(64);
         let mut gone: usize = 0;
         let mut at: usize = 0;
         let mut i: usize = 0;
         while i < count {
             let v = self.voices[i];
             let env = render::add_voice(v, n, trem, samples, at, left, right);
-            at = smaller(at + n * v.copies_shown(), samples.len());
+            at = (at + n * v.copies_shown()).min(samples.len());
             self.voices[i] = render::with_env(self.voices[i], env);
             if !render::goes_on(env) {
                 report(v.handle, gone, ended);

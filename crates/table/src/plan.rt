@@ -4,7 +4,6 @@ ghost use Rattle.table.specs.Plans.{GlidedTable};
 
 use crate::Table;
 use curves::{glide_voice, stands, write_standing};
-use lists::smaller;
 
 impl Table {
     // Every voice glides over the frames of a block, 1,024 at most, and its copies fill its part of the curve.
@@ -12,13 +11,13 @@ impl Table {
     pub fn glide(mut self, frames: usize, curve: &mut [f32]) -> Table
         ensures { GlidedTable frames self curve.old curve.new result }
     {
-        let n = smaller(frames, 1024);
-        let count = smaller(self.count, 64);
+        let n = frames.min(1024);
+        let count = self.count.min(64);
         let mut at: usize = 0;
         let mut i: usize = 0;
         while i < count {
             let v = self.voices[i];
-            let end = smaller(at + n * v.copies_shown(), curve.len());
+            let end = (at + n * v.copies_shown()).min(curve.len());
             // A voice that stands need not be put back.
             if stands(v) {
                 write_standing(v, n, &mut curve[at..end]);

@@ -14,7 +14,7 @@ ghost use Rattle.voice.specs.Changes.{off_sounding, on_seen, MakesCopy};
 
 use design::InstrumentDesign;
 use envelope::EnvGen;
-use lists::{change_first, smaller};
+use lists::change_first;
 use note::Note;
 use stream::UnisonCopy;
 
@@ -164,7 +164,7 @@ impl Voice {
     pub fn copies_shown(self) -> usize
         ensures { (result ≤ 8) × (result ≡ length (shown self).copies) }
     {
-        smaller(self.copy_count, 8)
+        self.copy_count.min(8)
     }
 }
 

@@ -12,5 +12,5 @@ loop-item-preserved g c = changed-more _ _ _ _ _ _ c.loop-item.invariant (let a 
 pub returns : goal.returns
 returns g c =
     let a = c.loop-item.auto in
-    let size = length-take c.smaller-end.result c.args.items.now in
-    changed-part _ c.loop-item.item-index _ _ _ _ c.smaller-end.ensures (omega (arith, size)) c.loop-item.invariant
+    let size = length-take c.min-end.result c.args.items.now in
+    changed-part _ c.loop-item.item-index _ _ _ _ c.min-end.ensures (omega (arith, size)) c.loop-item.invariant

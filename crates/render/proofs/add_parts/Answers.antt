@@ -20,11 +20,11 @@ pub add_copies-requires : goal.add_copies-requires
 add_copies-requires c =
     let x = c.args in
     let i = c.loop-a.invariant in
-    let fits : c.loop-a.a + c.smaller-m.result ≤ x.n = omega arith in
+    let fits : c.loop-a.a + c.min-m.result ≤ x.n = omega arith in
     let inputs = c.requires.inputs in
-    let m : length (take c.smaller-m.result c.fill-filled.result.levels) ≤ c.smaller-m.result = simp length-take (omega arith) in
-    let on_left = added-room _ _ _ _ _ _ c.loop-a.a c.smaller-m.result _ fits c.requires.left_sums i.2 in
-    let on_right = added-room _ _ _ _ _ _ c.loop-a.a c.smaller-m.result _ fits c.requires.right_sums i.3 in
+    let m : length (take c.min-m.result c.fill-filled.result.levels) ≤ c.min-m.result = simp length-take (omega arith) in
+    let on_left = added-room _ _ _ _ _ _ c.loop-a.a c.min-m.result _ fits c.requires.left_sums i.2 in
+    let on_right = added-room _ _ _ _ _ _ c.loop-a.a c.min-m.result _ fits c.requires.right_sums i.3 in
     record {
       inputs = rw (copies-shown x.v c.copies_shown-k.result c.copies_shown-k.ensures.1) (simp (length-take, length-drop) (omega arith));
       frames = omega arith;
@@ -37,7 +37,7 @@ unfolding shown
 loop-a-preserved c =
     let x = c.args in
     let a = c.loop-a.a in
-    let m = c.smaller-m.result in
+    let m = c.min-m.result in
     let i = c.loop-a.invariant in
     let k = c.copies_shown-k in
     let long = c.fill-filled.ensures.size in

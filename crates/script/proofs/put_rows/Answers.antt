@@ -16,8 +16,8 @@ loop-v-preserved c =
     let i = c.loop-v.invariant in
     let e = c.put_row-next.ensures in
     record {
-      puts = rows_more (take c.smaller.result c.args.vs) c.loop-v.v-index _ _ _ _ _ _ c.loop-v-test.true i.puts e.puts;
-      short = rows-length-more (take c.smaller.result c.args.vs) c.loop-v.v-index c.loop-v-test.true i.short e.v_len_bound;
+      puts = rows_more (take c.min.result c.args.vs) c.loop-v.v-index _ _ _ _ _ _ c.loop-v-test.true i.puts e.puts;
+      short = rows-length-more (take c.min.result c.args.vs) c.loop-v.v-index c.loop-v-test.true i.short e.v_len_bound;
     }
 
 pub returns : goal.returns
@@ -26,6 +26,6 @@ returns c =
     let i = c.loop-v.invariant in
     let t = c.loop-v-test.false in
     record {
-      puts = rows-done c.args.vs _ c.smaller.result c.loop-v.v-index _ _ _ _ _ long c.smaller.ensures t (puts _ _ _ _ _ c.put_literal-next.ensures) i.puts;
-      vs_len_bound = rows-length-done c.args.vs _ c.smaller.result c.loop-v.v-index long c.smaller.ensures c.loop-v.auto.v-index-end t i.short;
+      puts = rows-done c.args.vs _ c.min.result c.loop-v.v-index _ _ _ _ _ long c.min.ensures t (puts _ _ _ _ _ c.put_literal-next.ensures) i.puts;
+      vs_len_bound = rows-length-done c.args.vs _ c.min.result c.loop-v.v-index long c.min.ensures c.loop-v.auto.v-index-end t i.short;
     }

@@ -14,9 +14,9 @@ pub returns-then-seen-x : goal.returns-then-seen-x
 returns-then-seen-x c =
     let h = c.args.self in
     let l = notes-long h c.well_formed.0 in
-    sym (ap distinct (sym (held-least h.count h.notes l c.smaller-end.result c.smaller-end.ensures))
+    sym (ap distinct (sym (held-least h.count h.notes l c.min-end.result c.min-end.ensures))
     ∙ flags-fail h.notes c.loop-i.i _ c.loop-i.seen (omega arith) c.loop-i.invariant.1
-    c.place-x.result c.place-x.ensures.0 c.place-x.ensures.1 c.smaller-end.result c.loop-i-test.true c.if-seen-x.true)
+    c.place-x.result c.place-x.ensures.0 c.place-x.ensures.1 c.min-end.result c.loop-i-test.true c.if-seen-x.true)
 
 pub loop-i-preserved : goal.loop-i-preserved
 loop-i-preserved c =
@@ -30,5 +30,5 @@ pub returns : goal.returns
 returns c =
     let h = c.args.self in
     let l = notes-long h c.well_formed.0 in
-    let e : c.smaller-end.result ≡ c.loop-i.i = omega arith in
-    sym (ap distinct (sym (held-least h.count h.notes l c.smaller-end.result c.smaller-end.ensures) ∙ ap (λ (k : ℕ). held_first k h.notes) e) ∙ c.loop-i.invariant.1.once)
+    let e : c.min-end.result ≡ c.loop-i.i = omega arith in
+    sym (ap distinct (sym (held-least h.count h.notes l c.min-end.result c.min-end.ensures) ∙ ap (λ (k : ℕ). held_first k h.notes) e) ∙ c.loop-i.invariant.1.once)

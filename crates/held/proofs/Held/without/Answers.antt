@@ -24,4 +24,4 @@ loop-i-preserved c =
 pub returns : goal.returns
 returns c =
     let h = c.args.self in
-    keeping-end h (notes-long h c.well_formed.0) _ c.smaller-end.result c.loop-i.i _ _ c.smaller-end.ensures (omega arith) c.loop-i.invariant.1
+    keeping-end h (notes-long h c.well_formed.0) _ c.min-end.result c.loop-i.i _ _ c.min-end.ensures (omega arith) c.loop-i.invariant.1

@@ -16,7 +16,7 @@ use Rattle.table.proofs.Table.add.Goals.{then-reached, else-reached, then-reache
 pub offset_bounds-self-victim : goal.offset_bounds-self-victim
 unfolding shown
 offset_bounds-self-victim c =
-    let t : Table = record { voices = c.args.self.voices; count = c.smaller.result } in
+    let t : Table = record { voices = c.args.self.voices; count = c.min.result } in
     let long : length t.voices ≡ 64 = voices-long c.args.self c.well_formed.0 in
     let few : t.count ≤ 64 = omega arith in
     let counts = c.count_of.ensures sounding (λ v b p. search rules) in
@@ -26,7 +26,7 @@ offset_bounds-self-victim c =
 pub bounds-self-victim : goal.bounds-self-victim
 unfolding shown
 bounds-self-victim c =
-    let t : Table = record { voices = c.args.self.voices; count = c.smaller.result } in
+    let t : Table = record { voices = c.args.self.voices; count = c.min.result } in
     let long : length t.voices ≡ 64 = voices-long c.args.self c.well_formed.0 in
     let few : t.count ≤ 64 = omega arith in
     let counts = c.count_of.ensures sounding (λ v b p. search rules) in
@@ -36,7 +36,7 @@ bounds-self-victim c =
 pub offset_bounds-self-victim-then-reached : goal.offset_bounds-self-victim-then-reached
 unfolding shown
 offset_bounds-self-victim-then-reached c =
-    let t : Table = record { voices = c.args.self.voices; count = c.smaller.result } in
+    let t : Table = record { voices = c.args.self.voices; count = c.min.result } in
     let long : length t.voices ≡ 64 = voices-long c.args.self c.well_formed.0 in
     let few : t.count ≤ 64 = omega arith in
     let counts = c.count_of.ensures sounding (λ v b p. search rules) in
@@ -46,7 +46,7 @@ offset_bounds-self-victim-then-reached c =
 pub bounds-self-victim-then-reached : goal.bounds-self-victim-then-reached
 unfolding shown
 bounds-self-victim-then-reached c =
-    let t : Table = record { voices = c.args.self.voices; count = c.smaller.result } in
+    let t : Table = record { voices = c.args.self.voices; count = c.min.result } in
     let long : length t.voices ≡ 64 = voices-long c.args.self c.well_formed.0 in
     let few : t.count ≤ 64 = omega arith in
     let counts = c.count_of.ensures sounding (λ v b p. search rules) in
@@ -56,7 +56,7 @@ bounds-self-victim-then-reached c =
 pub offset_bounds-self-victim-then-reached-2 : goal.offset_bounds-self-victim-then-reached-2
 unfolding shown
 offset_bounds-self-victim-then-reached-2 c =
-    let t : Table = record { voices = c.args.self.voices; count = c.smaller.result } in
+    let t : Table = record { voices = c.args.self.voices; count = c.min.result } in
     let long : length t.voices ≡ 64 = voices-long c.args.self c.well_formed.0 in
     let few : t.count ≤ 64 = omega arith in
     let counts = c.count_of.ensures sounding (λ v b p. search rules) in
@@ -66,7 +66,7 @@ offset_bounds-self-victim-then-reached-2 c =
 pub bounds-self-victim-then-reached-2 : goal.bounds-self-victim-then-reached-2
 unfolding shown
 bounds-self-victim-then-reached-2 c =
-    let t : Table = record { voices = c.args.self.voices; count = c.smaller.result } in
+    let t : Table = record { voices = c.args.self.voices; count = c.min.result } in
     let long : length t.voices ≡ 64 = voices-long c.args.self c.well_formed.0 in
     let few : t.count ≤ 64 = omega arith in
     let counts = c.count_of.ensures sounding (λ v b p. search rules) in
@@ -76,7 +76,7 @@ bounds-self-victim-then-reached-2 c =
 pub offset_bounds-self-victim-then-reached-2-2 : goal.offset_bounds-self-victim-then-reached-2-2
 unfolding shown
 offset_bounds-self-victim-then-reached-2-2 c =
-    let t : Table = record { voices = c.args.self.voices; count = c.smaller.result } in
+    let t : Table = record { voices = c.args.self.voices; count = c.min.result } in
     let long : length t.voices ≡ 64 = voices-long c.args.self c.well_formed.0 in
     let few : t.count ≤ 64 = omega arith in
     let counts = c.count_of.ensures sounding (λ v b p. search rules) in
@@ -92,7 +92,7 @@ offset_bounds-self-victim-then-reached-2-2 c =
 pub bounds-self-victim-then-reached-2-2 : goal.bounds-self-victim-then-reached-2-2
 unfolding shown
 bounds-self-victim-then-reached-2-2 c =
-    let t : Table = record { voices = c.args.self.voices; count = c.smaller.result } in
+    let t : Table = record { voices = c.args.self.voices; count = c.min.result } in
     let long : length t.voices ≡ 64 = voices-long c.args.self c.well_formed.0 in
     let few : t.count ≤ 64 = omega arith in
     let counts = c.count_of.ensures sounding (λ v b p. search rules) in
@@ -108,7 +108,7 @@ bounds-self-victim-then-reached-2-2 c =
 pub overflow_add-i : goal.overflow_add-i
 unfolding shown
 overflow_add-i c =
-    let t : Table = record { voices = c.args.self.voices; count = c.smaller.result } in
+    let t : Table = record { voices = c.args.self.voices; count = c.min.result } in
     let long : length t.voices ≡ 64 = voices-long c.args.self c.well_formed.0 in
     let few : t.count ≤ 64 = omega arith in
     let counts = c.count_of.ensures sounding (λ v b p. search rules) in
@@ -124,7 +124,7 @@ overflow_add-i c =
 pub loop-i-init : goal.loop-i-init
 unfolding shown
 loop-i-init c =
-    let t : Table = record { voices = c.args.self.voices; count = c.smaller.result } in
+    let t : Table = record { voices = c.args.self.voices; count = c.min.result } in
     let long : length t.voices ≡ 64 = voices-long c.args.self c.well_formed.0 in
     let few : t.count ≤ 64 = omega arith in
     let counts = c.count_of.ensures sounding (λ v b p. search rules) in
@@ -140,7 +140,7 @@ loop-i-init c =
 pub loop-i-preserved : goal.loop-i-preserved
 unfolding shown
 loop-i-preserved c =
-    let t : Table = record { voices = c.args.self.voices; count = c.smaller.result } in
+    let t : Table = record { voices = c.args.self.voices; count = c.min.result } in
     let long : length t.voices ≡ 64 = voices-long c.args.self c.well_formed.0 in
     let few : t.count ≤ 64 = omega arith in
     let counts = c.count_of.ensures sounding (λ v b p. search rules) in
@@ -156,7 +156,7 @@ loop-i-preserved c =
 pub returns : goal.returns
 unfolding shown
 returns c =
-    let t : Table = record { voices = c.args.self.voices; count = c.smaller.result } in
+    let t : Table = record { voices = c.args.self.voices; count = c.min.result } in
     let long : length t.voices ≡ 64 = voices-long c.args.self c.well_formed.0 in
     let few : t.count ≤ 64 = omega arith in
     let counts = c.count_of.ensures sounding (λ v b p. search rules) in
@@ -172,4 +172,4 @@ returns c =
           (take-one _ c.if-reached.self k.array k.few (sym c.reached-2.ensures ∙ w.if-reached-2.true) _ w.quietest-victim.ensures w.loop-i.self w.loop-i.i w.loop-i.invariant.2 w.loop-i-test.false)
       | else-reached-2 w ↦ rw (w.self-is, w.taken-is) (take_none _ c.if-reached.self k.array k.few (sym c.reached-2.ensures ∙ w.if-reached-2.false))
     ] in
-    added _ c.args.self _ c.smaller.result (seen-least c.args.self long _ c.smaller.ensures) _ _ _ _ _ killed taken c.push-table.ensures refl refl
+    added _ c.args.self _ c.min.result (seen-least c.args.self long _ c.min.ensures) _ _ _ _ _ killed taken c.push-table.ensures refl refl

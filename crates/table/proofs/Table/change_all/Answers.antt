@@ -8,4 +8,4 @@ use Rattle.table.proofs.Table.change_all.Goals as goal
 pub returns : goal.returns
 returns g c = λ f m.
     let t = c.args.self in
-    holds-all t (voices-long t c.well_formed.0) _ c.smaller-count.ensures f _ (changed-seen _ seen (on_seen f) m _ _ _ c.change_first.ensures)
+    holds-all t (voices-long t c.well_formed.0) _ c.min-count.ensures f _ (changed-seen _ seen (on_seen f) m _ _ _ c.change_first.ensures)

@@ -8,6 +8,6 @@ returns g c = λ f m.
     let t = c.args.self in
     let long = voices-long t c.well_formed.0 in
     elim c.if-place-self.branch [
-      | then-place-self w ↦ rw w.self-is (holds-changed t long _ c.smaller.ensures f _ _ w.if-place-self.true (m _ _ w.change.ensures))
-      | else-place-self w ↦ rw w.self-is (holds-unchanged t long _ c.smaller.ensures f _ w.if-place-self.false)
+      | then-place-self w ↦ rw w.self-is (holds-changed t long _ c.min.ensures f _ _ w.if-place-self.true (m _ _ w.change.ensures))
+      | else-place-self w ↦ rw w.self-is (holds-unchanged t long _ c.min.ensures f _ w.if-place-self.false)
     ]

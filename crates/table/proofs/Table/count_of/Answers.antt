@@ -10,7 +10,7 @@ use Rattle.table.proofs.Table.count_of.Goals as goal
 pub returns : goal.returns
 returns g c = λ p d.
     let t = c.args.self in
-    counted t (voices-long t c.well_formed.0) p _ c.smaller-end.ensures _
+    counted t (voices-long t c.well_formed.0) p _ c.min-end.ensures _
     (count_from_yields_List c.filter.result c.count.result c.count.ensures.ran
-    (YieldsList-from_filter _ (λ v. p (shown v)) (YieldsList-from_slice (take c.smaller-end.result t.voices) cc) c.filter.ensures.closure
+    (YieldsList-from_filter _ (λ v. p (shown v)) (YieldsList-from_slice (take c.min-end.result t.voices) cc) c.filter.ensures.closure
     (λ x b q k. let s = k.shows in let e = k.called in rw (← s) (search (rules, d)))))

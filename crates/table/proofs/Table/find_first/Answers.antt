@@ -9,5 +9,5 @@ use Rattle.table.proofs.Table.find_first.Goals as goal
 pub returns : goal.returns
 returns g c = λ p d.
     let t = c.args.self in
-    found t (voices-long t c.well_formed.0) p _ c.smaller-end.ensures _
+    found t (voices-long t c.well_formed.0) p _ c.min-end.ensures _
     (position_from_yields_List (λ v. p (shown v)) _ _ c.position.result c.position.ensures.ran (YieldsList-from_slice _ c.iter.ensures.rest) (λ x b q k. search (rules, d)))

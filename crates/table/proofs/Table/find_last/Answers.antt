@@ -8,7 +8,7 @@ use Rattle.table.proofs.Table.find_last.Goals as goal
 pub loop-i-init : goal.loop-i-init
 loop-i-init g c = λ p d.
     let t = c.args.self in
-    last-start t (voices-long t c.well_formed.0) p c.smaller-end.result c.smaller-end.ensures
+    last-start t (voices-long t c.well_formed.0) p c.min-end.result c.min-end.ensures
 
 pub returns-then-test : goal.returns-then-test
 returns-then-test g c = λ p d.

@@ -11,7 +11,7 @@ use Rattle.table.proofs.Table.glide.Goals.{then-stands, else-stands}
 pub loop-i-init : goal.loop-i-init
 loop-i-init c =
     let l = voices-long c.args.self c.well_formed.0 in
-    let e = c.smaller-n.ensures in
+    let e = c.min-n.ensures in
     (omega arith, omega arith, omega arith, gliding-start _ _ _ _ (omega arith))
 
 pub overflow_mul-n : goal.overflow_mul-n
@@ -44,13 +44,13 @@ loop-i-preserved c =
     let rows = c.copies_shown.ensures.1 in
     let less = c.loop-i-test.true in
     let few = voices-long c.args.self c.well_formed.0 in
-    let next : Gliding c.smaller-n.result c.smaller-count.result c.args.self.voices c.args.curve.now
-    c.if-stands.self.voices c.if-stands.curve c.smaller-end.result (c.loop-i.i + 1) =
+    let next : Gliding c.min-n.result c.min-count.result c.args.self.voices c.args.curve.now
+    c.if-stands.self.voices c.if-stands.curve c.min-end.result (c.loop-i.i + 1) =
     (elim c.if-stands.branch [
       | then-stands y ↦ rw (y.curve-is, y.self-is)
-          (glide-stands _ _ _ _ (omega arith) p.3 less rows c.smaller-end.ensures refl refl (stands-glides _ _ _ _ _ c.stands.ensures y.if-stands.true y.write_standing.ensures))
+          (glide-stands _ _ _ _ (omega arith) p.3 less rows c.min-end.ensures refl refl (stands-glides _ _ _ _ _ c.stands.ensures y.if-stands.true y.write_standing.ensures))
       | else-stands y ↦ rw (y.curve-is, y.self-is)
-          (glide-moves _ _ _ _ (omega arith) p.3 less rows c.smaller-end.ensures refl refl _ y.glide_voice.ensures)
+          (glide-moves _ _ _ _ (omega arith) p.3 less rows c.min-end.ensures refl refl _ y.glide_voice.ensures)
     ]) in
     (omega arith, p.1, p.2, next)
 
@@ -58,4 +58,4 @@ pub returns : goal.returns
 returns c =
     let t = c.args.self in
     let p = c.loop-i.invariant in
-    glided-table _ _ _ t _ (voices-long t c.well_formed.0) c.smaller-n.ensures c.smaller-count.ensures p.3 (omega arith)
+    glided-table _ _ _ t _ (voices-long t c.well_formed.0) c.min-n.ensures c.min-count.ensures p.3 (omega arith)

@@ -3,8 +3,8 @@ use Rattle.table.proofs.Sizes.{voices-long}
 use native.Mathlib.Omega.{arith}
 use Rattle.table.proofs.Table.handle_at.Goals as goal
 
-pub returns-then-place-smaller : goal.returns-then-place-smaller
-returns-then-place-smaller c =
+pub returns-then-place-min : goal.returns-then-place-min
+returns-then-place-min c =
     let t = c.args.self in
     handle-here t (voices-long t c.well_formed.0) _ (omega arith)
 

@@ -10,7 +10,7 @@ pub look_at-looked-requires : goal.look_at-looked-requires
 look_at-looked-requires c =
     let few = c.loop-i.invariant.1.few in
     let t = c.loop-i-test.true in
-    let m = c.smaller-end.ensures in
+    let m = c.min-end.ensures in
     omega arith
 
 pub loop-i-preserved : goal.loop-i-preserved

@@ -17,36 +17,36 @@ loop-i-init c = (search rules, search rules, refl, refl, mix-start _ _ _ _ _)
 
 pub overflow_mul-n : goal.overflow_mul-n
 overflow_mul-n c =
-    let short : c.smaller-n.result ≤ 1024 = omega arith in
+    let short : c.min-n.result ≤ 1024 = omega arith in
     omega (arith, mul-le-mul short c.copies_shown.ensures.0)
 
 pub overflow_add-at : goal.overflow_add-at
 overflow_add-at c =
-    let short : c.smaller-n.result ≤ 1024 = omega arith in
+    let short : c.min-n.result ≤ 1024 = omega arith in
     omega (arith, mul-le-mul short c.copies_shown.ensures.0, c.loop-i.invariant.4.within, c.well_formed.1.1.1.0.0)
 
 pub overflow_add-gone : goal.overflow_add-gone
-overflow_add-gone c = omega (arith, c.loop-i.invariant.0, c.loop-i-test.true, c.smaller-count.ensures)
+overflow_add-gone c = omega (arith, c.loop-i.invariant.0, c.loop-i-test.true, c.min-count.ensures)
 
 pub loop-i-preserved : goal.loop-i-preserved
 loop-i-preserved c =
     let x = c.args in
     let long = voices-long x.self c.well_formed.0 in
-    let short : c.smaller-n.result ≤ 1024 = omega arith in
+    let short : c.min-n.result ≤ 1024 = omega arith in
     let i = c.loop-i.invariant in
     let u = i.4 in
     let v = get_or c.loop-i.self.voices c.loop-i.i past_end in
-    let m = c.smaller-at.ensures in
+    let m = c.min-at.ensures in
     let w = c.with_env.ensures in
     let r = c.copies_shown.ensures.1 in
     let e = c.add_voice-env.ensures in
     let sums = c.add_voice-env.new in
-    let n = c.smaller-n.result in
-    let inside : c.loop-i.i < min x.self.count 64 = omega (arith, c.loop-i-test.true, c.smaller-count.ensures) in
+    let n = c.min-n.result in
+    let inside : c.loop-i.i < min x.self.count 64 = omega (arith, c.loop-i-test.true, c.min-count.ensures) in
     let room : c.loop-i.i < length x.self.voices = omega (arith, long) in
     let more = mixed-more x.self (long) n x.trem x.samples.now x.left.now x.right.now c.loop-i.i v inside (pass-read past_end u.table.pass) in
     let next : UnderWay (mixed_to n x.trem x.self x.samples.now x.left.now x.right.now (c.loop-i.i + 1)) x.self.voices x.samples.now x.ended.now
-    sums.left sums.right c.if-not-goes_on.ended c.if-not-goes_on.self.voices c.if-not-goes_on.gone c.smaller-at.result (c.loop-i.i + 1) =
+    sums.left sums.right c.if-not-goes_on.ended c.if-not-goes_on.self.voices c.if-not-goes_on.gone c.min-at.result (c.loop-i.i + 1) =
     rw more
     (elim c.if-not-goes_on.branch [
       | then-not-goes_on y ↦ rw (y.ended-is, y.self-is, y.gone-is, y.report.ensures) (mix-not _ _ v short u e w r m c.goes_on.ensures y.if-not-goes_on.true)
@@ -70,4 +70,4 @@ returns c =
     let x = c.args in
     let long = voices-long x.self c.well_formed.0 in
     let i = c.loop-i.invariant in
-    mixed-end x.self (long) _ x.trem _ _ _ x.frames _ c.smaller-n.ensures c.smaller-count.ensures (omega (arith, c.loop-i-test.false, i.1)) i.4
+    mixed-end x.self (long) _ x.trem _ _ _ x.frames _ c.min-n.ensures c.min-count.ensures (omega (arith, c.loop-i-test.false, i.1)) i.4

@@ -11,4 +11,4 @@ unfolding shown
 returns c =
     let v = c.args.self in
     let len = copies-long v c.well_formed.0 in
-    (omega arith, c.smaller.ensures ∙ sym (length-take v.copy_count v.copies ∙ ap (min v.copy_count) len))
+    (omega arith, c.min.ensures ∙ sym (length-take v.copy_count v.copies ∙ ap (min v.copy_count) len))
