@@ -1,2 +1,3 @@
+pub mod Library
 pub mod Ordering
 pub mod Roots

@@ -111,5 +111,5 @@ zeros-apart : below (of_bits binary32 0x8000_0000) (of_bits binary32 0) ≡ true
 unfolding below of_bits
 zeros-apart = refl
 
-pub level-order : OrderOfLevels
-level-order = record { by_value = by_value_lem; zeros = zeros-apart; nan_last = nan_last_lem; nan_below_none = nan-below-none; ordered = record { one_way = one_way_lem; through = not-above } }
+pub level_order : OrderOfLevels
+level_order = record { by_value = by_value_lem; zeros = zeros-apart; nan_last = nan_last_lem; nan_below_none = nan-below-none; ordered = record { one_way = one_way_lem; through = not-above } }

@@ -12,12 +12,15 @@ ghost use Rattle.float32.specs.Order.{below};
 ghost use Rattle.float32.specs.Root.{root_of, RootsNearest};
 ghost use Rattle.float32.specs.OrderLaws.{OrderOfLevels};
 
+use std::num::{f32_from_bits_with_nan, f32_to_bits_with_nan};
+
 pub fn is_nan(x: f32) -> bool
     ensures { result ≡ is_nan x }
 {
     x.is_nan()
 }
 
+#[tactic(auto, using(crate::proofs::Library::finite_alike))]
 pub fn is_finite(x: f32) -> bool
     ensures { result ≡ finite x }
 {
@@ -75,6 +78,7 @@ pub fn clamp(x: f32, low: f32, high: f32) -> f32
 }
 
 // x minus its whole part.
+#[tactic(auto, using(crate::proofs::Library::whole_alike), unfolding(crate::specs::Numbers::fract_of))]
 pub fn fract(x: f32) -> f32
     ensures { result ≡ fract_of x }
 {
@@ -82,17 +86,12 @@ pub fn fract(x: f32) -> f32
 }
 
 // Whether a is below b in the order of levels: -0 below +0, a NaN above every number, all NaNs alike.
+#[tactic(auto, using(crate::proofs::Library::below_from_nan, crate::proofs::Library::below_nan, crate::proofs::Library::below_numbers))]
 pub fn total_below(a: f32, b: f32) -> bool
     ensures { result ≡ below a b }
 {
     // std's order takes no NaN.
-    if a.is_nan() {
-        false
-    } else if b.is_nan() {
-        true
-    } else {
-        a.total_cmp(&b).is_lt()
-    }
+    !a.is_nan() && (b.is_nan() || a.total_cmp(&b).is_lt())
 }
 
 // The roots of 0 to 8.
@@ -101,7 +100,7 @@ const ROOTS: [f32; 9] = [
 ];
 
 // The square root of n, rounded once, for n up to 8. There is none beyond: a NaN.
-#[tactic(auto, using(crate::proofs::Roots::none_past))]
+#[tactic(auto, using(crate::proofs::Roots::listed, crate::proofs::Roots::none_past))]
 pub fn root(n: u8) -> f32
     ensures { result ≡ root_of n }
 {
@@ -112,31 +111,27 @@ pub fn root(n: u8) -> f32
 }
 
 // The theorem that each root from 1 to 8 is the float nearest to the real root.
+#[tactic(auto, using(crate::proofs::Roots::nearest))]
 pub fn roots_nearest()
     ensures { RootsNearest }
 {}
 
 // The theorem that the order of levels is the order of numbers, with -0 below +0 and NaN last.
+#[tactic(auto, using(crate::proofs::Ordering::level_order))]
 pub fn order_of_levels()
     ensures { OrderOfLevels }
 {}
 
-// The float of a bit pattern. Every NaN pattern gives a NaN: std's takes none, nor does its `to_bits` take a NaN.
+// The float of a bit pattern. Every NaN pattern gives a NaN.
 pub fn from_bits(b: u32) -> f32
     ensures { result ≡ of_bits binary32 b }
 {
-    if b % 0x8000_0000 > 0x7f80_0000 {
-        return f32::NAN;
-    }
-    f32::from_bits(b)
+    f32_from_bits_with_nan(b)
 }
 
 // The bit pattern of a float. A NaN gives 7FC00000.
 pub fn to_bits(x: f32) -> u32
     ensures { result ≡ to_bits binary32 x }
 {
-    if x.is_nan() {
-        return 0x7fc0_0000;
-    }
-    f32::to_bits(x)
+    f32_to_bits_with_nan(x)
 }
