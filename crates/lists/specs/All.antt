@@ -1,7 +1,6 @@
 -- Every element passes a test.
-use Rattle.std.specs.Prelude.{◌≡◌, refl, Bool, true, false, not, ◌&&◌, List, [], ◌∷◌, map, ℕ, zero, suc, ◌+◌, ◌<◌, length, take, drop, get_or}
+use Rattle.std.specs.Prelude.{◌≡◌, refl, Bool, true, false, not, ◌&&◌, List, [], ◌∷◌, map, ◌+◌}
 use Rattle.std.proofs.Common.{arith}
-use Rattle.lists.specs.Prefix.{drop_more}
 use Rattle.lists.specs.Choose.{both}
 use Rattle.lists.specs.Count.{count}
 use Rattle.lists.specs.Places.{kept}
@@ -27,29 +26,6 @@ module _ {A : Type 0} (p : A → Bool) where
       by : (b : Bool) → p x ≡ b → (count (λ (a : A). not (p a)) xs ≡ 0 → all xs ≡ true) → all (x ∷ xs) ≡ true
       by true f ih = rw f (ih (let q : 0 + count (λ (a : A). not (p a)) xs ≡ 0 = rw f at e in omega arith))
       by false f ih = let q : 1 + count (λ (a : A). not (p a)) xs ≡ 0 = rw f at e in let z : ⊥ = omega arith in absurd z
-
-module _ {A : Type 0} (p : A → Bool) where
-  -- a loop with an early return looks at what is left
-  pub all-next : (xs : List A) (i : ℕ) (d : A) → i < length xs → p (get_or xs i d) ≡ true → all p (drop i xs) ≡ all p (drop (i + 1) xs)
-  all-next xs i d h e = rw (drop_more xs i d, e)
-
-  pub all-fails : (xs : List A) (i : ℕ) (d : A) → i < length xs → p (get_or xs i d) ≡ false → all p (drop i xs) ≡ false
-  all-fails xs i d h e = rw (drop_more xs i d, e)
-
-  pub all_take : (n : ℕ) (xs : List A) → all p xs ≡ true → all p (take n xs) ≡ true
-  all_take zero xs e = refl
-  all_take (suc n) [] e = refl
-  all_take (suc n) (x ∷ xs) e = let h = both (p x) (all p xs) e in rw h.0 (all_take n xs h.1)
-
-  pub all_drop : (n : ℕ) (xs : List A) → all p xs ≡ true → all p (drop n xs) ≡ true
-  all_drop zero xs e = e
-  all_drop (suc n) [] e = refl
-  all_drop (suc n) (x ∷ xs) e = all_drop n xs (both (p x) (all p xs) e).1
-
-  pub all-at : (xs : List A) (j : ℕ) (d : A) → j < length xs → all p xs ≡ true → p (get_or xs j d) ≡ true
-  all-at [] j d h e = let z : ⊥ = omega arith in absurd z
-  all-at (x ∷ xs) zero d h e = (both (p x) (all p xs) e).0
-  all-at (x ∷ xs) (suc j) d h e = all-at xs j d (omega arith) (both (p x) (all p xs) e).1
 
 module _ {A : Type 0} (p q : A → Bool) where
   -- two tests at once

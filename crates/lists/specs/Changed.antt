@@ -1,8 +1,7 @@
 -- A pass that changes the first elements of a list where they stand, by a closure: what it leaves, and what it makes of the list
 -- where it is known what the closure gives.
-use Rattle.std.specs.Prelude.{◌≡◌, refl, List, [], ◌∷◌, ◌++◌, map, ℕ, zero, suc, ◌+◌, ◌≤◌, ◌<◌, min, length, take, drop, get_or, set}
-use Rattle.std.proofs.Common.{ap, sym, ◌∙◌, arith, add-one}
-use Rattle.lists.specs.Prefix.{mapped, mapped-none}
+use Rattle.std.specs.Prelude.{◌≡◌, refl, List, [], ◌∷◌, ◌++◌, map, ℕ, zero, suc, ◌+◌, ◌<◌, min, length, take, drop, get_or, set}
+use Rattle.std.proofs.Common.{arith, add-one}
 
 module _ {A : Type 0} (post : A → A → Type 0) where
   -- each of the first n is what a call gave of the one that stood there, and those behind are as they were
@@ -37,13 +36,6 @@ module _ {A : Type 0} (post : A → A → Type 0) where
       by (suc n) (x ∷ xs) ys zero e w = let z : ⊥ = omega arith in absurd z
       by (suc n) (x ∷ xs) [] (suc m) e w = absurd w
       by (suc n) (x ∷ xs) (y ∷ ys) (suc m) e w = (w.0, by n xs ys m (omega arith) w.1)
-
-  -- where what a call gives is f of the element
-  pub changed-mapped : (f : A → A) → ((a b : A) → post a b → b ≡ f a) → (n : ℕ) (xs ys : List A) → FirstChanged n xs ys → ys ≡ mapped f n xs
-  changed-mapped f law zero xs ys w = w ∙ mapped-none f xs
-  changed-mapped f law (suc n) [] ys w = w
-  changed-mapped f law (suc n) (x ∷ xs) [] w = absurd w
-  changed-mapped f law (suc n) (x ∷ xs) (y ∷ ys) w = rw (law x y w.0, changed-mapped f law n xs ys w.1)
 
   -- where the view of what a call gives is g of the view of the element
   pub changed-seen : {B : Type 0} (s : A → B) (g : B → B) → ((a b : A) → post a b → s b ≡ g (s a)) → (n : ℕ) (xs ys : List A) → FirstChanged n xs ys

@@ -1,14 +1,9 @@
 -- Laws on `cond`, the choice by a test.
-use Rattle.std.specs.Prelude.{◌≡◌, refl, Bool, true, false, ◌&&◌, ◌||◌, cond, ℕ}
+use Rattle.std.specs.Prelude.{◌≡◌, refl, Bool, true, false, ◌&&◌, cond, ℕ}
 use Rattle.std.proofs.Common.{arith}
+pub use Rattle.std.proofs.lemmas.Bool.{cond-true, cond-false}
 
 module _ {A : Type 0} where
-  pub cond-true : (b : Bool) (x y : A) → b ≡ true → cond b x y ≡ x
-  cond-true b x y e = rw e
-
-  pub cond-false : (b : Bool) (x y : A) → b ≡ false → cond b x y ≡ y
-  cond-false b x y e = rw e
-
   -- what holds of a choice, by its test
   pub chosen : (P : A → Type 0) (b : Bool) (x y : A) → (b ≡ true → P x) → (b ≡ false → P y) → P (cond b x y)
   chosen P true x y f g = f refl
@@ -30,9 +25,3 @@ module _ (a b : Bool) where
 
   pub and_then : (x : Bool) → a ≡ true → x ≡ b → x ≡ a && b
   and_then x e f = rw e f
-
-  pub or-passes : a ≡ true → true ≡ a || b
-  or-passes e = rw e
-
-  pub or_else : (x : Bool) → a ≡ false → x ≡ b → x ≡ a || b
-  or_else x e f = rw e f

@@ -1,10 +1,10 @@
 -- The place of the first of the lowest among the elements that pass a test, by an order given as a test `below`.
 -- Two facts of the order serve: it never holds both ways, and not being above is transitive.
-use Rattle.std.specs.Prelude.{◌≡◌, refl, Bool, true, false, not, ◌&&◌, ◌||◌, cond, List, [], ◌∷◌, ◌++◌, map, ℕ, zero, suc, ◌+◌, ◌≤◌, ◌<◌, leb, ltb, eqb, length, get_or, take}
+use Rattle.std.specs.Prelude.{◌≡◌, refl, Bool, true, false, not, ◌&&◌, ◌||◌, cond, List, [], ◌∷◌, ◌++◌, ℕ, zero, suc, ◌+◌, ◌≤◌, ◌<◌, leb, ltb, eqb, length, get_or, take}
 use Rattle.std.proofs.Common.{ap, sym, ◌∙◌, arith, leb-true, leb-false, ltb-true, ltb-false, eqb-true, eq-eqb, ne_eqb, length-append, length-take-le, get_or-take}
 use Rattle.std.proofs.lemmas.Bool.{eqb-false}
-use Rattle.std.proofs.lemmas.List.{length-map, get_or_at}
-use Rattle.std.proofs.Math.ListN.{get_or-map, get_or-append}
+use Rattle.std.proofs.lemmas.List.{get_or_at}
+use Rattle.std.proofs.Math.ListN.{get_or-append}
 use Rattle.lists.specs.Choose.{clash, chosen}
 use Rattle.lists.specs.Count.{one_if, count, count-append, count_at}
 use Rattle.lists.specs.Prefix.{each_more, take_more}
@@ -199,14 +199,3 @@ module _ {A : Type 0} (d : A) (below : A → A → Bool) (p : A → Bool) where
         let there = get_or-take (i + 1) xs (lowest ys) d (omega (arith, size, low)) in
         let k : get_or (ys ++ (get_or xs i d ∷ [])) (lowest ys) d ≡ get_or xs (lowest ys) d = ap (λ (l : List A). get_or l (lowest ys) d) (sym e) ∙ there in
         ap lowest e ∙ lowest-snoc ys (get_or xs i d) ∙ rw (k, size)
-
--- an order and a test that go through a view are those of the view
-pub lowest-map : {A B : Type 0} (f : A → B) (d : A) (below : A → A → Bool) (p : A → Bool) (under : B → B → Bool) (q : B → Bool)
-    → ((a b : A) → below a b ≡ under (f a) (f b)) → ((a : A) → p a ≡ q (f a)) → (xs : List A) → lowest d below p xs ≡ lowest (f d) under q (map f xs)
-lowest-map f d below p under q h g [] = refl
-lowest-map f d below p under q h g (a ∷ rest) =
-    let later = lowest-map f d below p under q h g rest in
-    let at : below (get_or rest (lowest d below p rest) d) a ≡ under (get_or (map f rest) (lowest (f d) under q (map f rest)) (f d)) (f a) =
-    h (get_or rest (lowest d below p rest) d) a ∙ rw (later, get_or-map f rest (lowest (f d) under q (map f rest)) d) in
-    let size : length rest ≡ length (map f rest) = rw length-map in
-    rw (g a, at, later, size)

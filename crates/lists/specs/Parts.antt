@@ -1,14 +1,15 @@
 -- A list written part by part: what a part that was lent and came back makes of the whole, parts of a part, one list parted in two ways,
 -- elements read one by one, and lists that are joined of one list for each element.
-use Rattle.std.specs.Prelude.{◌≡◌, ℕ, zero, suc, ◌+◌, ◌-◌, ◌*◌, ◌≤◌, ◌<◌, length, take, drop, get_or, set, replicate}
+use Rattle.std.specs.Prelude.{◌≡◌, ℕ, suc, ◌+◌, ◌-◌, ◌*◌, ◌≤◌, ◌<◌, length, take, drop, get_or, set, replicate}
 use Rattle.std.proofs.Math.Path.{refl}
-use Rattle.std.proofs.Common.{ap, sym, ◌∙◌, length-take, length-drop, length-set, take_all, take_at, take-take, drop-drop, drop-cons, drop-set-lt, get_or-set_same}
+use Rattle.std.proofs.Common.{ap, sym, ◌∙◌, add-one, length-take, length-drop, take_at, take-take, drop-drop}
 use mathlib.Core.List.{List, [], ◌∷◌, ◌++◌, flat_map, append_assoc, append-nil}
 use Rattle.std.proofs.Math.Nat.{mul-suc}
 use native.Mathlib.Omega.{arith}
 use Rattle.std.proofs.Math.ListN.{length-append}
 use Rattle.std.proofs.Math.Seq.{drop-append_seam}
-use Rattle.std.proofs.lemmas.List.{drop-set-add, take-set-le}
+use Rattle.std.proofs.lemmas.List.{drop-set-add, take-set-le, drop-replicate, take-replicate, drop-set as set_then_drop, drop-take}
+pub use Rattle.std.proofs.lemmas.List.{drop-replicate, nil_from_length as no_length}
 use Rattle.lists.specs.Prefix.{take_more}
 
 module _ {A : Type 0} where
@@ -37,22 +38,12 @@ module _ {A : Type 0} where
 module _ {A : Type 0} where
   -- a part of a front is that part of the whole
   pub part-take : (a m n : ℕ) (xs : List A) → a + m ≤ n → take m (drop a (take n xs)) ≡ take m (drop a xs)
-  part-take zero m n xs h = take-take m n xs (omega arith)
-  part-take (suc a) m zero xs h = let z : ⊥ = omega arith in absurd z
-  part-take (suc a) m (suc n) [] h = refl
-  part-take (suc a) m (suc n) (x ∷ xs) h = part-take a m n xs (omega arith)
+  part-take a m n xs h =
+      let e : a + (n - a) ≡ n = omega arith in
+      rw e at (ap (take m) (drop-take a (n - a) xs)) ∙ take-take m (n - a) (drop a xs) (omega arith)
 
   pub part-replicate : (a m n : ℕ) (x : A) → a + m ≤ n → take m (drop a (replicate n x)) ≡ replicate m x
-  part-replicate zero zero n x h = refl
-  part-replicate zero (suc m) zero x h = let z : ⊥ = omega arith in absurd z
-  part-replicate zero (suc m) (suc n) x h = ap (◌∷◌ x) (part-replicate zero m n x (omega arith))
-  part-replicate (suc a) m zero x h = let z : ⊥ = omega arith in absurd z
-  part-replicate (suc a) m (suc n) x h = part-replicate a m n x (omega arith)
-
-  pub drop-replicate : (n k : ℕ) (a : A) → drop n (replicate k a) ≡ replicate (k - n) a
-  drop-replicate zero k a = let z : k - 0 ≡ k = omega arith in rw z
-  drop-replicate (suc n) zero a = let z : 0 - suc n ≡ 0 = omega arith in rw z
-  drop-replicate (suc n) (suc k) a = let z : suc k - suc n ≡ k - n = omega arith in rw z (drop-replicate n k a)
+  part-replicate a m n x h = rw (drop-replicate a n x) (take-replicate m (n - a) x (omega arith))
 
   -- what agrees from a on agrees from b on
   pub rest-on : (a b : ℕ) (xs ys : List A) → a ≤ b → drop a xs ≡ drop a ys → drop b xs ≡ drop b ys
@@ -62,22 +53,13 @@ module _ {A : Type 0} where
 
   -- what stands from a place on after a store there
   pub drop-set : (l : List A) (k : ℕ) (x : A) → k < length l → drop k (set l k x) ≡ x ∷ drop (suc k) l
-  drop-set l k x h =
-      let n = length-set l k x in
-      let q : k < length (set l k x) = omega arith in
-      drop-cons (set l k x) k x q
-      ∙ ap (λ (y : A). y ∷ drop (suc k) (set l k x)) (get_or-set_same l k x x h)
-      ∙ ap (◌∷◌ x) (drop-set-lt (suc k) l k x (omega arith))
+  drop-set l k x h = rw add-one at (set_then_drop l k x h)
 
   -- a store behind a part leaves it
   pub part-set : (at k i : ℕ) (x : A) (l : List A) → at + k ≤ i → take k (drop at (set l i x)) ≡ take k (drop at l)
   part-set at k i x l h =
       let e : at + (i - at) ≡ i = omega arith in
       ap (λ (j : ℕ). take k (drop at (set l j x))) (sym e) ∙ ap (take k) (drop-set-add at l (i - at) x) ∙ take-set-le k (drop at l) (i - at) x (omega arith)
-
-  pub no_length : (l : List A) → length l ≡ 0 → l ≡ []
-  no_length [] e = refl
-  no_length (x ∷ l) e = let z : ⊥ = omega arith in absurd z
 
   pub length-snoc : (xs : List A) (a : A) (k : ℕ) → length xs ≡ k → length (xs ++ (a ∷ [])) ≡ suc k
   length-snoc xs a k e = let b = length-append xs (a ∷ []) in omega arith
@@ -105,19 +87,6 @@ module _ {A : Type 0} where
       let q = front-on xs ys cs ds (omega arith) (tail-same e) in
       let f : x ≡ y = head-same e in
       cc
-
-  -- `m` elements read one by one from index i, as code writes them out; the reading side of `sets`
-  abbrev pub reads : List A → ℕ → ℕ → A → List A
-  reads l i zero d = []
-  reads l i (suc m) d = get_or l i d ∷ reads l (suc i) m d
-
-  pub reads-eq : (l : List A) (i m : ℕ) (d : A) → i + m ≤ length l → reads l i m d ≡ take m (drop i l)
-  reads-eq l i zero d h = refl
-  reads-eq l i (suc m) d h = rw (drop-cons l i d (omega arith)) (ap (◌∷◌ (get_or l i d)) (reads-eq l (suc i) m d (omega arith)))
-
-  -- an array is what is read at its places
-  pub reads_all : (l : List A) (m : ℕ) (d : A) → length l ≡ m → reads l 0 m d ≡ l
-  reads_all l m d e = reads-eq l 0 m d (omega arith) ∙ take_all m l (omega arith)
 
 module _ {A B : Type 0} (f : A → List B) where
   pub flat_append : (xs ys : List A) → flat_map f (xs ++ ys) ≡ flat_map f xs ++ flat_map f ys

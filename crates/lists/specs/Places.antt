@@ -27,14 +27,6 @@ module _ {A : Type 0} where
   kept p [] = []
   kept p (a ∷ rest) = cond (p a) (a ∷ kept p rest) (kept p rest)
 
-  -- a search that looks at one after the other: the invariant speaks of what is left
-  pub find-found : (p : A → Bool) (xs : List A) (i : ℕ) (d : A) → i < length xs → p (get_or xs i d) ≡ true → find_at p (drop i xs) ≡ 0
-  find-found p xs i d h e = rw (drop_more xs i d, e)
-
-  pub find-next : (p : A → Bool) (xs : List A) (i : ℕ) (d : A) → i < length xs → p (get_or xs i d) ≡ false
-      → find_at p (drop i xs) ≡ suc (find_at p (drop (i + 1) xs))
-  find-next p xs i d h e = rw (drop_more xs i d, e)
-
   -- a search from the end: none passes in what was looked at
   pub last_none : (p : A → Bool) (xs : List A) → count p xs ≡ 0 → last_at p xs ≡ length xs
   last_none p [] e = refl
@@ -59,12 +51,6 @@ module _ {A : Type 0} where
   pub count_left : (p : A → Bool) (xs : List A) (i : ℕ) (d : A) → i < length xs
       → count p (drop i xs) ≡ one_if (p (get_or xs i d)) + count p (drop (i + 1) xs)
   count_left p xs i d h = rw (drop_more xs i d)
-
-  pub without-split : (k : ℕ) (xs : List A) → without k xs ≡ take k xs ++ drop (suc k) xs
-  without-split zero [] = refl
-  without-split (suc k) [] = refl
-  without-split zero (x ∷ xs) = refl
-  without-split (suc k) (x ∷ xs) = ap (◌∷◌ x) (without-split k xs)
 
   -- a removal that moves down one after the other
   pub without-none : (k : ℕ) (xs : List A) → without k (take (k + 1) xs) ≡ take k xs
@@ -132,9 +118,6 @@ module _ {A : Type 0} where
 
 module _ {A B : Type 0} where
   -- a test that goes through the view is one test of the list and of its view
-  pub find-map : (f : A → B) (p : A → Bool) (q : B → Bool) → ((a : A) → p a ≡ q (f a)) → (xs : List A) → find_at p xs ≡ find_at q (map f xs)
-  find-map f p q h [] = refl
-  find-map f p q h (x ∷ xs) = rw (h x, find-map f p q h xs)
 
   pub map-without : (f : A → B) (k : ℕ) (xs : List A) → map f (without k xs) ≡ without k (map f xs)
   map-without f k [] = refl

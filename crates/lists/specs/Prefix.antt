@@ -1,23 +1,12 @@
 -- Laws on the first elements of a list, at the code's `i + 1`, for loops that count up.
-use Rattle.std.specs.Prelude.{◌≡◌, refl, List, [], ◌∷◌, ◌++◌, map, ℕ, zero, suc, ◌+◌, ◌≤◌, ◌<◌, min, Bool, true, false, leb, ltb, length, take, drop, get_or, set}
-use Rattle.std.proofs.Common.{ap, sym, ◌∙◌, append_assoc, add-one, arith, leb-true, leb-false, ltb-true, ltb-false, length-append, length-take, length-drop, take_all, drop-cons, take-suc, take-suc-set, get_or-take, take_at}
-use Rattle.std.proofs.lemmas.List.{map-append, length-map, get_or_at, set_at}
+use Rattle.std.specs.Prelude.{◌≡◌, refl, List, [], ◌∷◌, ◌++◌, map, ℕ, ◌+◌, ◌≤◌, ◌<◌, min, Bool, true, false, leb, ltb, length, take, drop, get_or, set}
+use Rattle.std.proofs.Common.{ap, sym, ◌∙◌, append_assoc, arith, leb-true, leb-false, ltb-true, ltb-false, length-append, length-take, length-drop, take_all, get_or-take, take_at}
+use Rattle.std.proofs.lemmas.List.{map-append, length-map, get_or_at, set_at, take_more, drop_more, map-set, take_more_set}
+pub use Rattle.std.proofs.lemmas.List.{take_more, drop_more, map-set, get_or_default as get_d_any}
 use Rattle.std.proofs.Math.ListN.{get_or-map, get_or-append}
 use Rattle.std.proofs.Math.Seq.{take-set-lt}
 
 module _ {A : Type 0} where
-  pub take_more : (xs : List A) (i : ℕ) (d : A) → i < length xs → take (i + 1) xs ≡ take i xs ++ (get_or xs i d ∷ [])
-  take_more xs i d h = rw (add-one, take-suc xs i d)
-
-  pub drop_more : (xs : List A) (i : ℕ) (d : A) → i < length xs → drop i xs ≡ get_or xs i d ∷ drop (i + 1) xs
-  drop_more xs i d h = rw (add-one, drop-cons xs i d)
-
-  -- within the list the default is not looked at
-  pub get_d_any : (xs : List A) (i : ℕ) (a b : A) → i < length xs → get_or xs i a ≡ get_or xs i b
-  get_d_any [] i a b h = let z : ⊥ = omega arith in absurd z
-  get_d_any (x ∷ xs) zero a b h = refl
-  get_d_any (x ∷ xs) (suc i) a b h = get_d_any xs i a b (omega arith)
-
   -- of an array of size m there are no more than m
   pub take_min : (n m : ℕ) (xs : List A) → length xs ≡ m → take (min n m) xs ≡ take n xs
   take_min n m xs e = by (leb n m) refl
@@ -53,21 +42,6 @@ module _ {A B : Type 0} where
       → fold f z (take (i + 1) xs) ≡ f (fold f z (take i xs)) (get_or xs i d)
   fold_more f z xs i d h = rw (take_more xs i d, fold-snoc)
 
-  pub map-take : (f : A → B) (k : ℕ) (xs : List A) → map f (take k xs) ≡ take k (map f xs)
-  map-take f zero xs = refl
-  map-take f (suc k) [] = refl
-  map-take f (suc k) (x ∷ xs) = ap (◌∷◌ (f x)) (map-take f k xs)
-
-  pub map-drop : (f : A → B) (k : ℕ) (xs : List A) → map f (drop k xs) ≡ drop k (map f xs)
-  map-drop f zero xs = refl
-  map-drop f (suc k) [] = refl
-  map-drop f (suc k) (x ∷ xs) = map-drop f k xs
-
-  pub map-set : (f : A → B) (xs : List A) (k : ℕ) (a : A) → map f (set xs k a) ≡ set (map f xs) k (f a)
-  map-set f [] k a = refl
-  map-set f (x ∷ xs) zero a = refl
-  map-set f (x ∷ xs) (suc k) a = ap (◌∷◌ (f x)) (map-set f xs k a)
-
   -- the view of the first n: how long it is, what stands in it, and what a store does to it
   pub shown-length : (f : A → B) (n : ℕ) (xs : List A) → n ≤ length xs → length (map f (take n xs)) ≡ n
   shown-length f n xs h = simp (length-map, length-take) (omega arith)
@@ -80,12 +54,7 @@ module _ {A B : Type 0} where
 
   -- one more, stored behind the first n
   pub shown-push : (f : A → B) (n : ℕ) (xs : List A) (a : A) → n < length xs → map f (take (n + 1) (set xs n a)) ≡ map f (take n xs) ++ (f a ∷ [])
-  shown-push f n xs a h = rw (add-one, take-suc-set xs n a, map-append f)
-
-  pub shown-any : (f : A → B) (n : ℕ) (xs : List A) (i : ℕ) (d : A) (e : B) → n ≤ length xs → i < n → get_or (map f (take n xs)) i e ≡ f (get_or xs i d)
-  shown-any f n xs i d e hn hi =
-      let size = shown-length f n xs hn in
-      get_d_any (map f (take n xs)) i e (f d) (omega (arith, size)) ∙ shown-at f n xs i d hi
+  shown-push f n xs a h = rw (take_more_set xs n a, map-append f)
 
 -- a change of elements that the view turns into a change of what is seen
 pub map-through : {A B : Type 0} (s : A → B) (f : A → A) (g : B → B) → ((a : A) → s (f a) ≡ g (s a)) → (xs : List A) → map s (map f xs) ≡ map g (map s xs)
@@ -96,10 +65,6 @@ map-through s f g h (x ∷ xs) = rw (h x, map-through s f g h xs)
 module _ {A : Type 0} (f : A → A) where
   abbrev pub mapped : ℕ → List A → List A
   mapped i xs = map f (take i xs) ++ drop i xs
-
-  pub mapped-none : (xs : List A) → xs ≡ mapped 0 xs
-  mapped-none [] = refl
-  mapped-none (x ∷ xs) = refl
 
   pub length-mapped : (i : ℕ) (xs : List A) → length (mapped i xs) ≡ length xs
   length-mapped i xs = simp (length-append, length-map, length-take, length-drop) (omega arith)
@@ -119,12 +84,6 @@ module _ {A : Type 0} (f : A → A) where
   pub mapped-more : (xs : List A) (i : ℕ) (d : A) → i < length xs → set (mapped i xs) i (f (get_or xs i d)) ≡ mapped (i + 1) xs
   mapped-more xs i d h =
       rw (drop_more xs i d, take_more xs i d, map-append, append_assoc) (set_at (map f (take i xs)) _ _ _ i (length_front xs i h))
-
--- a fold seen through h, with its elements seen through k
-pub fold-hom : {A B C D : Type 0} (h : B → D) (k : A → C) (f : B → A → B) (g : D → C → D) → ((z : B) (a : A) → h (f z a) ≡ g (h z) (k a))
-    → (z : B) (l : List A) → h (fold f z l) ≡ fold g (h z) (map k l)
-fold-hom h k f g p z [] = refl
-fold-hom h k f g p z (a ∷ l) = fold-hom h k f g p (f z a) l ∙ rw (p z a)
 
 pub fold-see : {A B D : Type 0} (h : B → D) (f : B → A → B) (g : D → A → D) → ((z : B) (a : A) → h (f z a) ≡ g (h z) a)
     → (z : B) (l : List A) → h (fold f z l) ≡ fold g (h z) l
