@@ -86,49 +86,17 @@ use Rattle.model.specs.Start.{fresh, start_of}
 use Rattle.model.specs.Runs.{after, replies}
 use Rattle.examples.specs.Examples.{designed, audible, row_of, frames, frames_kept, WorkedExamples}
 
--- To unfold one of these is to unfold what its line names; their values say nothing.
-floats : Bool
-unfolding of_bits of_int is_nan le sub mul div max_of min_of clamp_of below smaller root_of
-floats = true
-
-envelopes : Bool
-unfolding floats settled at gated_on released with_release gated_off killed is_active is_faded rise ticked_attack ticked_decay ticked_release ticked
-envelopes = true
-
-copies : Bool
-unfolding floats pitched glide_step stepped heard glided curve new_copy spread_of pan_of norm_of caught_up
-copies = true
-
-designs : Bool
-unfolding floats rate_fits all_finite lfo_active modulated modulation_finite numbers_fit floats_fit design_reply is_accepted copies_of
-designs = true
-
-voices : Bool
-unfolding envelopes copies designs with_voice released_voice killed_voice with_sustained aimed_at struck_again with_copies aged aged_voice
-voices = true
-
-tables : Bool
-unfolding voices first_copies new_copies new_envelope new_voice is_ended quieter is_place quietest_sounding quietest first_sounding place_of placed blocked
-tables = true
-
-offs : Bool
-unfolding tables newest_of poly_off held_without not_held none_held newest_held fallen_back mono_off note_off_of
-offs = true
-
-ons : Bool
-unfolding offs velocity_of is_off full after_kill killed_handle crowded after_taking taken_handle started_note new_note new_handle_due note_on_of
-ons = true
-
-monos : Bool
-unfolding ons held_with kept_voice kept_note goes_on mono_on
-monos = true
-
-blocks : Bool
-unfolding monos frames_fit release_of modulated_by opened plan_of played remaining ended_handles report mix_of
-blocks = true
-
+-- To unfold this is to unfold what its line names; its value says nothing.
 calls : Bool
-unfolding blocks block_fits mode_fits well_formed no_block block_open block_missing handles_spent refusal step fresh start_of
+unfolding of_bits of_int is_nan le sub mul div max_of min_of clamp_of below smaller root_of settled at gated_on released with_release gated_off killed
+    is_active is_faded rise ticked_attack ticked_decay ticked_release ticked pitched glide_step stepped heard glided curve new_copy spread_of
+    pan_of norm_of caught_up rate_fits all_finite lfo_active modulated modulation_finite numbers_fit floats_fit design_reply is_accepted
+    copies_of with_voice released_voice killed_voice with_sustained aimed_at struck_again with_copies aged aged_voice first_copies new_copies
+    new_envelope new_voice is_ended quieter is_place quietest_sounding quietest first_sounding place_of placed blocked newest_of poly_off
+    held_without not_held none_held newest_held fallen_back mono_off note_off_of velocity_of is_off full after_kill killed_handle crowded
+    after_taking taken_handle started_note new_note new_handle_due note_on_of held_with kept_voice kept_note goes_on mono_on frames_fit
+    release_of modulated_by opened plan_of played remaining ended_handles report mix_of block_fits mode_fits well_formed no_block block_open
+    block_missing handles_spent refusal step fresh start_of
 calls = true
 
 -- ---- E1
@@ -145,7 +113,7 @@ module _ (d : InstrumentDesign) (e : is_accepted d ≡ true) where
 
   -- the call is a note-off of the mode
   nan-off : (n : ℕ) (built : Bool) → step (fresh d) (note_on n nan built) ≡ note_off_in d.mode (fresh d) n
-  unfolding step refusal block_open no_block block_missing handles_spent new_handle_due note_on_of note_off_of is_off velocity_of floats fresh
+  unfolding step refusal block_open no_block block_missing handles_spent new_handle_due note_on_of note_off_of is_off velocity_of is_nan le clamp_of of_bits fresh
   nan-off n built = rw formed
 
 -- what holds in Poly and in Mono holds in every mode
@@ -198,9 +166,9 @@ either : (P : Bool → Type 0) → P true → P false → (b : Bool) → P b
 either P x y true = x
 either P x y false = y
 
-pub worked-examples : WorkedExamples
+pub worked_examples : WorkedExamples
 unfolding calls lasting
-worked-examples = record {
+worked_examples = record {
   e1 = λ d e n built.
       ap (λ (o : Outcome). o.reply) (nan-off d e n built) ∙ in-mode (λ (p : PlayMode). (note_off_in p (fresh d) n).reply) _ refl (λ legato. refl) d.mode;
   e2 = record { ready = refl; reply = refl; table = refl };

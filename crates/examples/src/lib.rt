@@ -5,6 +5,7 @@
 ghost use Rattle.examples.specs.Examples.{WorkedExamples};
 
 // E1 to E13, of the definitions that the code is proved against.
+#[tactic(auto, using(crate::proofs::Examples::worked_examples))]
 pub fn worked_examples()
     ensures { WorkedExamples }
 {}

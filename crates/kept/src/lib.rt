@@ -11,7 +11,6 @@ use envelope::EnvGen;
 pub fn tick(env: &mut EnvGen) -> f32
     ensures { (env.new ≡ ticked env.old) × (result ≡ (ticked env.old).level) }
 {
-    let next = (*env).tick();
-    *env = next;
-    next.level
+    *env = env.tick();
+    env.level
 }
