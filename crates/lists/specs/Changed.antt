@@ -30,10 +30,10 @@ module _ {A : Type 0} (post : A → A → Type 0) where
     where
       by : (n : ℕ) (xs ys : List A) (m : ℕ) → m ≡ min n (length xs) → FirstChanged m (take m xs) ys → FirstChanged n xs (ys ++ drop m xs)
       by zero xs ys zero e w = rw w
-      by zero xs ys (suc m) e w = let z : ⊥ = omega arith in absurd z
+      by zero xs ys (suc m) e w = absurd (omega arith)
       by (suc n) [] ys zero e w = rw w
-      by (suc n) [] ys (suc m) e w = let z : ⊥ = omega arith in absurd z
-      by (suc n) (x ∷ xs) ys zero e w = let z : ⊥ = omega arith in absurd z
+      by (suc n) [] ys (suc m) e w = absurd (omega arith)
+      by (suc n) (x ∷ xs) ys zero e w = absurd (omega arith)
       by (suc n) (x ∷ xs) [] (suc m) e w = absurd w
       by (suc n) (x ∷ xs) (y ∷ ys) (suc m) e w = (w.0, by n xs ys m (omega arith) w.1)
 

@@ -15,8 +15,7 @@ clash b e f = let z : ◌≡◌ {A = ℕ} 0 1 = cc in omega arith
 
 -- both parts of a test that passes
 pub both : (a b : Bool) → a && b ≡ true → (a ≡ true) × (b ≡ true)
-both true b e = (refl, e)
-both false b e = let z : ◌≡◌ {A = Bool} false true = e in (e, cc)
+both a b e = (grind arith, grind arith)
 
 -- a chain of tests as code with early returns meets it: the first that fails ends an `&&`, the first that passes ends an `||`
 module _ (a b : Bool) where

@@ -17,22 +17,22 @@ module _ {A : Type 0} where
 
   pub count-append : (p : A → Bool) (xs ys : List A) → count p (xs ++ ys) ≡ count p xs + count p ys
   count-append p [] ys = omega arith
-  count-append p (x ∷ xs) ys = let h = count-append p xs ys in omega arith
+  count-append p (x ∷ xs) ys = grind (arith, count-append p xs ys)
 
   pub count_at : (d : A) (p : A → Bool) (xs : List A) (j : ℕ) → j < length xs → p (get_or xs j d) ≡ true → 1 ≤ count p xs
-  count_at d p [] j h e = let z : ⊥ = omega arith in absurd z
-  count_at d p (x ∷ xs) zero h e = rw e (omega arith)
-  count_at d p (x ∷ xs) (suc j) h e = let q = count_at d p xs j (omega arith) e in omega arith
+  count_at d p [] j h e = absurd (omega arith)
+  count_at d p (x ∷ xs) zero h e = grind arith
+  count_at d p (x ∷ xs) (suc j) h e = grind (arith, count_at d p xs j)
 
   -- one element stored over another
   pub count_set : (p : A → Bool) (d : A) (xs : List A) (k : ℕ) (a : A) → k < length xs → count p (set xs k a) + one_if (p (get_or xs k d)) ≡ count p xs + one_if (p a)
-  count_set p d [] k a h = let z : ⊥ = omega arith in absurd z
+  count_set p d [] k a h = absurd (omega arith)
   count_set p d (x ∷ xs) zero a h = omega arith
-  count_set p d (x ∷ xs) (suc k) a h = let q = count_set p d xs k a (omega arith) in omega arith
+  count_set p d (x ∷ xs) (suc k) a h = grind (arith, count_set p d xs k a)
 
   pub count-all : (xs : List A) → count (λ (a : A). true) xs ≡ length xs
   count-all [] = refl
-  count-all (x ∷ xs) = let q = count-all xs in omega arith
+  count-all (x ∷ xs) = grind (arith, count-all xs)
 
 module _ {A B : Type 0} where
   pub count_map : (f : A → B) (p : B → Bool) (xs : List A) → count p (map f xs) ≡ count (λ (a : A). p (f a)) xs

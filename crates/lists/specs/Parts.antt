@@ -2,13 +2,14 @@
 -- elements read one by one, and lists that are joined of one list for each element.
 use Rattle.std.specs.Prelude.{◌≡◌, ℕ, suc, ◌+◌, ◌-◌, ◌*◌, ◌≤◌, ◌<◌, length, take, drop, get_or, set, replicate}
 use Rattle.std.proofs.Math.Path.{refl}
-use Rattle.std.proofs.Common.{ap, sym, ◌∙◌, add-one, length-take, length-drop, take_at, take-take, drop-drop}
+use Rattle.std.proofs.Common.{ap, sym, ◌∙◌, length-take, length-drop, take-take, drop-drop}
 use mathlib.Core.List.{List, [], ◌∷◌, ◌++◌, flat_map, append_assoc, append-nil}
 use Rattle.std.proofs.Math.Nat.{mul-suc}
 use native.Mathlib.Omega.{arith}
 use Rattle.std.proofs.Math.ListN.{length-append}
 use Rattle.std.proofs.Math.Seq.{drop-append_seam}
-use Rattle.std.proofs.lemmas.List.{drop-set-add, take-set-le, drop-replicate, take-replicate, drop-set as set_then_drop, drop-take}
+use Rattle.std.proofs.lemmas.List.{drop-set-add, take-set-le, drop-replicate, take-replicate, drop-take}
+use Rattle.std.proofs.lemmas.Grind.{common_steps}
 pub use Rattle.std.proofs.lemmas.List.{drop-replicate, nil_from_length as no_length}
 use Rattle.lists.specs.Prefix.{take_more}
 
@@ -16,16 +17,14 @@ module _ {A : Type 0} where
   -- ys stands for the k elements from `at` on
   pub part_length : (at k : ℕ) (xs ys : List A) → at + k ≤ length xs → length ys ≡ k
       → length (take at xs ++ (ys ++ drop k (drop at xs))) ≡ length xs
-  part_length at k xs ys h e = simp (length-append, length-take, length-drop) (omega arith)
+  part_length at k xs ys h e = grind (arith, common_steps)
 
   pub part-size : (at k : ℕ) (xs : List A) → at + k ≤ length xs → length (take k (drop at xs)) ≡ k
   part-size at k xs h = simp (length-take, length-drop) (omega arith)
 
   pub part-front : (at k : ℕ) (xs ys : List A) → at + k ≤ length xs → length ys ≡ k
       → take (at + k) (take at xs ++ (ys ++ drop k (drop at xs))) ≡ take at xs ++ ys
-  part-front at k xs ys h e =
-      rw (← append_assoc (take at xs) ys (drop k (drop at xs)))
-      (take_at (take at xs ++ ys) (drop k (drop at xs)) (at + k) (simp (length-append, length-take) (omega arith)))
+  part-front at k xs ys h e = grind (arith, common_steps)
 
   -- and those behind are as they were
   pub part-rest : (at k : ℕ) (xs ys : List A) → at + k ≤ length xs → length ys ≡ k → drop (at + k) (take at xs ++ (ys ++ drop k (drop at xs))) ≡ drop (at + k) xs
@@ -47,13 +46,11 @@ module _ {A : Type 0} where
 
   -- what agrees from a on agrees from b on
   pub rest-on : (a b : ℕ) (xs ys : List A) → a ≤ b → drop a xs ≡ drop a ys → drop b xs ≡ drop b ys
-  rest-on a b xs ys h e =
-      let k : a + (b - a) ≡ b = omega arith in
-      rw k at (sym (drop-drop (b - a) a xs) ∙ ap (drop (b - a)) e ∙ drop-drop (b - a) a ys)
+  rest-on a b xs ys h e = grind (arith, common_steps, ap (drop (b - a)) e)
 
   -- what stands from a place on after a store there
   pub drop-set : (l : List A) (k : ℕ) (x : A) → k < length l → drop k (set l k x) ≡ x ∷ drop (suc k) l
-  drop-set l k x h = rw add-one at (set_then_drop l k x h)
+  drop-set l k x h = grind (arith, common_steps)
 
   -- a store behind a part leaves it
   pub part-set : (at k i : ℕ) (x : A) (l : List A) → at + k ≤ i → take k (drop at (set l i x)) ≡ take k (drop at l)
@@ -73,20 +70,15 @@ module _ {A : Type 0} where
   -- of two ways to part one list, those with fronts of one length are the same
   pub parts_same : (xs ys cs ds : List A) → length xs ≡ length ys → xs ++ cs ≡ ys ++ ds → (xs ≡ ys) × (cs ≡ ds)
   parts_same [] [] cs ds h e = (refl, e)
-  parts_same [] (y ∷ ys) cs ds h e = let z : ⊥ = omega arith in absurd z
-  parts_same (x ∷ xs) [] cs ds h e = let z : ⊥ = omega arith in absurd z
-  parts_same (x ∷ xs) (y ∷ ys) cs ds h e =
-      let q = parts_same xs ys cs ds (omega arith) (tail-same e) in
-      (let f : x ≡ y = head-same e in let g = q.0 in cc, q.1)
+  parts_same [] (y ∷ ys) cs ds h e = absurd (omega arith)
+  parts_same (x ∷ xs) [] cs ds h e = absurd (omega arith)
+  parts_same (x ∷ xs) (y ∷ ys) cs ds h e = let q = parts_same xs ys cs ds (omega arith) cc in (cc, q.1)
 
   -- a longer front goes on where the shorter ends
   pub front-on : (xs ys cs ds : List A) → length ys ≤ length xs → xs ++ cs ≡ ys ++ ds → xs ≡ ys ++ drop (length ys) xs
   front-on xs [] cs ds h e = refl
-  front-on [] (y ∷ ys) cs ds h e = let z : ⊥ = omega arith in absurd z
-  front-on (x ∷ xs) (y ∷ ys) cs ds h e =
-      let q = front-on xs ys cs ds (omega arith) (tail-same e) in
-      let f : x ≡ y = head-same e in
-      cc
+  front-on [] (y ∷ ys) cs ds h e = absurd (omega arith)
+  front-on (x ∷ xs) (y ∷ ys) cs ds h e = let q = front-on xs ys cs ds (omega arith) cc in cc
 
 module _ {A B : Type 0} (f : A → List B) where
   pub flat_append : (xs ys : List A) → flat_map f (xs ++ ys) ≡ flat_map f xs ++ flat_map f ys

@@ -2,13 +2,14 @@
 -- `w` where the next is written, `i` where the next is read, and `ys` the view of what stands at the front.
 -- With w ≡ i it is a map in place; with w ≤ i it packs what it keeps.
 use Rattle.std.specs.Prelude.{◌≡◌, refl, Bool, true, false, List, [], ◌∷◌, ◌++◌, map, ℕ, ◌+◌, ◌-◌, ◌≤◌, ◌<◌, ltb, length, take, drop, get_or, set}
-use Rattle.std.proofs.Common.{ap, sym, ◌∙◌, add-one, arith, ltb-true, ltb-false, length-set, length-take, take-suc-set, drop-set-lt, get_or-drop, drop-drop}
+use Rattle.std.proofs.Common.{ap, sym, ◌∙◌, add-one, arith, ltb-true, ltb-false, length-set, length-take, take-suc-set, drop-set-lt}
 use Rattle.std.proofs.lemmas.List.{map-append, length-map, take-set-le}
+use Rattle.std.proofs.lemmas.Grind.{common_steps}
 use Rattle.lists.specs.Places.{without, without-none, without_more, without-past, map-without}
 
 module _ {A : Type 0} where
   drop-next : (i : ℕ) (ws vs : List A) → drop i ws ≡ drop i vs → drop (i + 1) ws ≡ drop (i + 1) vs
-  drop-next i ws vs e = sym (drop-drop 1 i ws) ∙ ap (drop 1) e ∙ drop-drop 1 i vs
+  drop-next i ws vs e = grind (arith, common_steps, ap (drop 1) e)
 
 module _ {A B : Type 0} where
   pub record Pass (s : A → B) (ys : List B) (w i : ℕ) (ws vs : List A) : Type 0 where
@@ -19,10 +20,7 @@ module _ {A B : Type 0} where
 
   module _ {s : A → B} {ys : List B} {w i : ℕ} {ws vs : List A} where
     pub pass-read : (d : A) → Pass s ys w i ws vs → get_or ws i d ≡ get_or vs i d
-    pass-read d p =
-        let l : get_or (drop i ws) 0 d ≡ get_or ws i d = get_or-drop i ws 0 d ∙ ap (λ (n : ℕ). get_or ws n d) (omega arith) in
-        let r : get_or (drop i vs) 0 d ≡ get_or vs i d = get_or-drop i vs 0 d ∙ ap (λ (n : ℕ). get_or vs n d) (omega arith) in
-        sym l ∙ ap (λ (l : List A). get_or l 0 d) p.back ∙ r
+    pass-read d p = grind (arith, common_steps, ap (λ (l : List A). get_or l 0 d) p.back)
 
     pub pass-skip : Pass s ys w i ws vs → Pass s ys w (i + 1) ws vs
     pass-skip p = record { front = p.front; back = drop-next i ws vs p.back; size = p.size; order = omega arith }

@@ -1,15 +1,12 @@
 -- How often a number stands in a list: lists that agree on it are permutations of one another, and one in which no number stands twice has no repeats.
 use Rattle.std.specs.Prelude.{◌≡◌, refl, Bool, true, false, ◌&&◌, ℕ, zero, suc, ◌+◌, ◌≤◌, ◌<◌, eqb, ltb, length}
-use Rattle.std.proofs.Common.{ap, sym, ◌∙◌, arith, eqb-true, eq-eqb, ne_eqb, ltb-true}
+use Rattle.std.proofs.Common.{ap, sym, ◌∙◌, arith, eqb-true, ne_eqb}
 use mathlib.Core.List.Perm
 use mathlib.Core.List.{List, [], ◌∷◌, ◌++◌, Memᴰ, Mem, Nodup, Nodup-nil, Nodup-cons, Perm, perm_middle}
 use Rattle.std.proofs.Math.Logic.{∥∥₁_elim}
 use Rattle.std.proofs.Math.Bridge.{le_prop}
-use Rattle.std.proofs.lemmas.Bool.{eqb-false}
 use Rattle.lists.specs.All.{all}
-use Rattle.lists.specs.Choose.{both}
 use Rattle.lists.specs.All.{all}
-use Rattle.lists.specs.Choose.{both}
 use Rattle.lists.specs.Count.{one_if, count, count-append}
 
 -- how often h stands in the list
@@ -31,8 +28,8 @@ found h (x ∷ xs) p = by (eqb x h) refl (found h xs)
     by false e ih = Memᴰ.tail (ih (let q : 1 ≤ one_if false + times h xs = rw e at p in omega arith))
 
 pub counted : {h : ℕ} {l : List ℕ} → Memᴰ h l → 1 ≤ times h l
-counted {h} (Memᴰ.head {x = x} {xs = xs} e) = let q : eqb x h ≡ true = eq-eqb x h (sym e) in rw q (omega arith)
-counted {h} (Memᴰ.tail {x = x} {xs = xs} m) = let q = counted m in omega arith
+counted {h} (Memᴰ.head {x = x} {xs = xs} e) = grind arith
+counted {h} (Memᴰ.tail {x = x} {xs = xs} m) = grind (arith, counted m)
 
 pub counted-in : {h : ℕ} {l : List ℕ} → Mem h l → 1 ≤ times h l
 counted-in {h} {l} m = ∥∥₁_elim m le_prop counted
@@ -60,13 +57,10 @@ module _ (x : ℕ) (xs front back : List ℕ) where
   placed : Perm xs (front ++ back) → Perm (x ∷ xs) (front ++ (x ∷ back))
   placed p = Perm.trans (Perm.cons x p) (Perm.symm (perm_middle front back))
 
-times-first : (x : ℕ) (xs : List ℕ) → times x (x ∷ xs) ≡ 1 + times x xs
-times-first x xs = rw (eq-eqb x x refl)
-
 pub perm-of-times : (xs ys : List ℕ) → ((h : ℕ) → times h xs ≡ times h ys) → Perm xs ys
 perm-of-times [] [] e = Perm.nil
-perm-of-times [] (y ∷ ys) e = let z = e y in let q = times-first y ys in let f : ⊥ = omega arith in absurd f
-perm-of-times (x ∷ xs) ys e = by (perm-of-times xs) (split (found x ys (let q = times-first x xs in let z = e x in omega arith)))
+perm-of-times [] (y ∷ ys) e = let z : 1 + times y ys ≡ 0 = grind (arith, e y) in absurd (omega arith)
+perm-of-times (x ∷ xs) ys e = by (perm-of-times xs) (split (found x ys (grind (arith, e x))))
   where
     by : ((zs : List ℕ) → ((h : ℕ) → times h xs ≡ times h zs) → Perm xs zs) → Split x ys → Perm (x ∷ xs) ys
     by ih s =
@@ -76,10 +70,7 @@ pub nodup-of-times : (l : List ℕ) → ((h : ℕ) → times h l ≤ 1) → Nodu
 nodup-of-times [] e = Nodup-nil
 nodup-of-times (x ∷ xs) e =
     Nodup-cons.1 (
-      λ m. let q = times-first x xs in
-          let k : 1 ≤ times x xs = counted-in m in
-          let z = e x in
-          omega arith,
+      λ m. let k : 1 ≤ times x xs = counted-in m in let z = e x in grind arith,
       nodup-of-times xs (λ h. let z = e h in omega arith),
     )
 
@@ -90,66 +81,21 @@ distinct (x ∷ xs) = eqb (times x xs) 0 && distinct xs
 
 pub distinct-of-times : (l : List ℕ) → ((h : ℕ) → times h l ≤ 1) → distinct l ≡ true
 distinct-of-times [] e = refl
-distinct-of-times (x ∷ xs) e =
-    let q = times-first x xs in
-    let z = e x in
-    rw (eq-eqb (times x xs) 0 (omega arith)) (distinct-of-times xs (λ h. let z = e h in omega arith))
+distinct-of-times (x ∷ xs) e = grind (arith, distinct-of-times xs (λ h. let z = e h in omega arith), e x)
 
 pub times-of-distinct : (l : List ℕ) → distinct l ≡ true → (h : ℕ) → times h l ≤ 1
 times-of-distinct [] e h = omega arith
-times-of-distinct (x ∷ xs) e h = by (eqb x h) refl (times-of-distinct xs b.1 h)
-  where
-    b : (eqb (times x xs) 0 ≡ true) × (distinct xs ≡ true)
-    b = both (eqb (times x xs) 0) (distinct xs) e
-
-    by : (c : Bool) → eqb x h ≡ c → times h xs ≤ 1 → times h (x ∷ xs) ≤ 1
-    by true f ih =
-        let q : times x xs ≡ 0 = eqb-true _ _ b.0 in
-        let r : x ≡ h = eqb-true x h f in
-        let z : times h xs ≡ 0 = ap (λ (y : ℕ). times y xs) (sym r) ∙ q in
-        rw f (omega arith)
-    by false f ih = rw f (omega arith)
+times-of-distinct (x ∷ xs) e h = grind (arith, times-of-distinct xs)
 
 -- one more at the end
 pub distinct_snoc : (l : List ℕ) (x : ℕ) → distinct (l ++ (x ∷ [])) ≡ (distinct l && eqb (times x l) 0)
 distinct_snoc [] x = refl
-distinct_snoc (y ∷ l) x = by (eqb y x) refl (distinct_snoc l x)
-  where
-    swap : (a b c : Bool) → (a && (b && c)) ≡ ((a && b) && c)
-    swap true b c = refl
-    swap false b c = refl
-
-    none : (a : Bool) → (a && false) ≡ false
-    none true = refl
-    none false = refl
-
-    by : (b : Bool) → eqb y x ≡ b → distinct (l ++ (x ∷ [])) ≡ (distinct l && eqb (times x l) 0)
-        → distinct (y ∷ (l ++ (x ∷ []))) ≡ (distinct (y ∷ l) && eqb (times x (y ∷ l)) 0)
-    by true e ih =
-        let q : y ≡ x = eqb-true y x e in
-        let t = times-append y l (x ∷ []) in
-        let o : one_if (eqb x y) ≡ 1 = ap one_if (eq-eqb x y (sym q)) in
-        let a : eqb (times y (l ++ (x ∷ []))) 0 ≡ false = ne_eqb _ 0 (λ (z : times y (l ++ (x ∷ [])) ≡ 0). omega arith) in
-        let b : eqb (one_if true + times x l) 0 ≡ false = ne_eqb _ 0 (λ (z : one_if true + times x l ≡ 0). omega arith) in
-        rw (a, e, b) (sym (none (eqb (times y l) 0 && distinct l)))
-    by false e ih =
-        let t = times-append y l (x ∷ []) in
-        let o : one_if (eqb x y) ≡ 0 = ap one_if (ne_eqb x y (λ (z : x ≡ y). eqb-false y x e (sym z))) in
-        let a : times y (l ++ (x ∷ [])) ≡ times y l = omega arith in
-        let b : one_if false + times x l ≡ times x l = omega arith in
-        rw (a, e, b, ih) (swap (eqb (times y l) 0) (distinct l) (eqb (times x l) 0))
+distinct_snoc (y ∷ l) x = grind (arith, distinct_snoc l x, times-append y l (x ∷ []))
 
 -- what stands in front of a list without repeats has none
 pub distinct-front : (l m : List ℕ) → distinct (l ++ m) ≡ true → distinct l ≡ true
 distinct-front [] m e = refl
-distinct-front (x ∷ l) m e =
-    let b = both (eqb (times x (l ++ m)) 0) (distinct (l ++ m)) e in
-    let n : times x (l ++ m) ≡ 0 = eqb-true (times x (l ++ m)) 0 b.0 in
-    let t = times-append x l m in
-    rw (eq-eqb (times x l) 0 (omega arith)) (distinct-front l m b.1)
-
-lower : (x k : ℕ) → (x ≡ k → ⊥) → x < suc k → x < k
-lower x k n h = omega arith
+distinct-front (x ∷ l) m e = grind (arith, distinct-front l m, times-append x l m)
 
 -- how many numbers below k stand in the list, repeats counted
 abbrev tally : ℕ → List ℕ → ℕ
@@ -158,56 +104,27 @@ tally (suc k) l = times k l + tally k l
 
 tally-high : (k x : ℕ) (l : List ℕ) → k ≤ x → tally k (x ∷ l) ≡ tally k l
 tally-high zero x l h = refl
-tally-high (suc k) x l h =
-    let t = tally-high k x l (omega arith) in
-    let o : one_if (eqb x k) ≡ 0 = ap one_if (ne_eqb x k (λ (z : x ≡ k). omega arith)) in
-    omega arith
+tally-high (suc k) x l h = grind (arith, tally-high k x l)
 
 tally-low : (k x : ℕ) (l : List ℕ) → x < k → tally k (x ∷ l) ≡ 1 + tally k l
-tally-low zero x l h = let z : ⊥ = omega arith in absurd z
-tally-low (suc k) x l h = by (eqb x k) refl (tally-low k x l)
-  where
-    by : (b : Bool) → eqb x k ≡ b → (x < k → tally k (x ∷ l) ≡ 1 + tally k l) → tally (suc k) (x ∷ l) ≡ 1 + tally (suc k) l
-    by true q ih =
-        let z : x ≡ k = eqb-true x k q in
-        let t = tally-high k x l (omega arith) in
-        let o : one_if (eqb x k) ≡ 1 = ap one_if q in
-        omega arith
-    by false q ih =
-        let t = ih (lower x k (eqb-false x k q) h) in
-        let o : one_if (eqb x k) ≡ 0 = ap one_if q in
-        omega arith
+tally-low zero x l h = absurd (omega arith)
+tally-low (suc k) x l h = grind (arith, tally-low k x l, tally-high k x l)
 
 tally-all : (k : ℕ) (l : List ℕ) → all (λ (x : ℕ). ltb x k) l ≡ true → tally k l ≡ length l
 tally-all k [] e = none k
   where
     none : (k : ℕ) → tally k [] ≡ 0
     none zero = refl
-    none (suc k) = let q = none k in omega arith
-tally-all k (x ∷ l) e =
-    let b = both (ltb x k) (all (λ (x : ℕ). ltb x k) l) e in
-    let t = tally-all k l b.1 in
-    let s = tally-low k x l (ltb-true x k b.0) in
-    omega arith
+    none (suc k) = grind (arith, none k)
+tally-all k (x ∷ l) e = grind (arith, tally-all k l, tally-low k x l)
 
 tally-most : (k : ℕ) (l : List ℕ) → ((y : ℕ) → times y l ≤ 1) → tally k l ≤ k
 tally-most zero l h = omega arith
-tally-most (suc k) l h = let t = tally-most k l h in let s = h k in omega arith
+tally-most (suc k) l h = grind (arith, tally-most k l h, h k)
 
 tally-less : (k n : ℕ) (l : List ℕ) → n < k → times n l ≡ 0 → ((y : ℕ) → times y l ≤ 1) → tally k l < k
-tally-less zero n l p z h = let q : ⊥ = omega arith in absurd q
-tally-less (suc k) n l p z h = by (eqb n k) refl (λ q. tally-less k n l q z h)
-  where
-    by : (b : Bool) → eqb n k ≡ b → (n < k → tally k l < k) → tally (suc k) l < suc k
-    by true q ih =
-        let e : n ≡ k = eqb-true n k q in
-        let m : times k l ≡ 0 = ap (λ (y : ℕ). times y l) (sym e) ∙ z in
-        let t = tally-most k l h in
-        omega arith
-    by false q ih =
-        let t = ih (lower n k (eqb-false n k q) p) in
-        let s = h k in
-        omega arith
+tally-less zero n l p z h = absurd (omega arith)
+tally-less (suc k) n l p z h = grind (arith, tally-less k n l, tally-most k l h, h k)
 
 -- numbers below k, none twice and n not among them, are fewer than k
 pub distinct-short : (k n : ℕ) (l : List ℕ) → n < k → all (λ (x : ℕ). ltb x k) l ≡ true → times n l ≡ 0 → ((y : ℕ) → times y l ≤ 1) → length l < k

@@ -1,9 +1,8 @@
 -- Places in a list, a list without one element, those that pass a test.
 use Rattle.std.specs.Prelude.{◌≡◌, refl, Bool, true, false, not, cond, List, [], ◌∷◌, ◌++◌, map, ℕ, zero, suc, ◌+◌, ◌≤◌, ◌<◌, ltb, length, get_or, take, drop}
-use Rattle.std.proofs.Common.{ap, arith, add-one, lt-ltb, le-ltb, length-take}
+use Rattle.std.proofs.Common.{ap, arith, add-one, length-take}
 use Rattle.lists.specs.Count.{one_if, count}
 use Rattle.lists.specs.Prefix.{take_more, drop_more}
-use Rattle.lists.specs.Choose.{chosen}
 
 module _ {A : Type 0} where
   -- the place of the first that passes, and the length where none does
@@ -30,23 +29,12 @@ module _ {A : Type 0} where
   -- a search from the end: none passes in what was looked at
   pub last_none : (p : A → Bool) (xs : List A) → count p xs ≡ 0 → last_at p xs ≡ length xs
   last_none p [] e = refl
-  last_none p (x ∷ xs) e = by (p x) refl (last_none p xs)
-    where
-      by : (b : Bool) → p x ≡ b → (count p xs ≡ 0 → last_at p xs ≡ length xs) → last_at p (x ∷ xs) ≡ length (x ∷ xs)
-      by true f ih = let q : 1 + count p xs ≡ 0 = rw f at e in let z : ⊥ = omega arith in absurd z
-      by false f ih =
-          let q : 0 + count p xs ≡ 0 = rw f at e in
-          let r = ih (omega arith) in
-          rw (le-ltb (last_at p xs) (length xs) (omega arith), f)
+  last_none p (x ∷ xs) e = grind (arith, last_none p xs)
 
   pub last_found : (p : A → Bool) (xs : List A) (k : ℕ) (d : A) → k < length xs → p (get_or xs k d) ≡ true → count p (drop (suc k) xs) ≡ 0 → last_at p xs ≡ k
-  last_found p [] k d h e f = let z : ⊥ = omega arith in absurd z
-  last_found p (x ∷ xs) zero d h e f =
-      let r = last_none p xs f in
-      rw (le-ltb (last_at p xs) (length xs) (omega arith), e)
-  last_found p (x ∷ xs) (suc k) d h e f =
-      let r = last_found p xs k d (omega arith) e f in
-      rw (lt-ltb (last_at p xs) (length xs) (omega arith)) (omega arith)
+  last_found p [] k d h e f = absurd (omega arith)
+  last_found p (x ∷ xs) zero d h e f = grind (arith, last_none p xs)
+  last_found p (x ∷ xs) (suc k) d h e f = grind (arith, last_found p xs k d)
 
   pub count_left : (p : A → Bool) (xs : List A) (i : ℕ) (d : A) → i < length xs
       → count p (drop i xs) ≡ one_if (p (get_or xs i d)) + count p (drop (i + 1) xs)
@@ -54,67 +42,48 @@ module _ {A : Type 0} where
 
   -- a removal that moves down one after the other
   pub without-none : (k : ℕ) (xs : List A) → without k (take (k + 1) xs) ≡ take k xs
-  without-none k xs = rw add-one (by k xs)
-    where
-      by : (k : ℕ) (xs : List A) → without k (take (suc k) xs) ≡ take k xs
-      by zero [] = refl
-      by zero (x ∷ xs) = refl
-      by (suc k) [] = refl
-      by (suc k) (x ∷ xs) = ap (◌∷◌ x) (by k xs)
+  without-none zero [] = refl
+  without-none zero (x ∷ xs) = refl
+  without-none (suc k) [] = rw add-one
+  without-none (suc k) (x ∷ xs) = grind (arith, without-none k xs)
 
   pub without-append : (k : ℕ) (xs ys : List A) → k < length xs → without k (xs ++ ys) ≡ without k xs ++ ys
-  without-append k [] ys h = let z : ⊥ = omega arith in absurd z
+  without-append k [] ys h = absurd (omega arith)
   without-append zero (x ∷ xs) ys h = refl
-  without-append (suc k) (x ∷ xs) ys h = ap (◌∷◌ x) (without-append k xs ys (omega arith))
+  without-append (suc k) (x ∷ xs) ys h = grind (arith, without-append k xs ys)
 
   pub without_more : (k i : ℕ) (xs : List A) (d : A) → k < i → i < length xs
       → without k (take (i + 1) xs) ≡ without k (take i xs) ++ (get_or xs i d ∷ [])
   without_more k i xs d h l = rw (take_more xs i d) (without-append k (take i xs) (get_or xs i d ∷ []) (simp length-take (omega arith)))
 
   pub without-length : (k : ℕ) (l : List A) → k < length l → length (without k l) + 1 ≡ length l
-  without-length k [] h = let z : ⊥ = omega arith in absurd z
+  without-length k [] h = absurd (omega arith)
   without-length zero (x ∷ l) h = omega arith
-  without-length (suc k) (x ∷ l) h = let r = without-length k l (omega arith) in omega arith
+  without-length (suc k) (x ∷ l) h = grind (arith, without-length k l)
 
   -- nothing stands past the end
   pub without-past : (k : ℕ) (l : List A) → length l ≤ k → without k l ≡ l
   without-past k [] h = refl
-  without-past zero (x ∷ l) h = let z : ⊥ = omega arith in absurd z
-  without-past (suc k) (x ∷ l) h = ap (◌∷◌ x) (without-past k l (omega arith))
+  without-past zero (x ∷ l) h = absurd (omega arith)
+  without-past (suc k) (x ∷ l) h = grind (arith, without-past k l)
 
   pub kept-le : (p : A → Bool) (xs : List A) → length (kept p xs) ≤ length xs
   kept-le p [] = omega arith
-  kept-le p (x ∷ xs) =
-      let q = kept-le p xs in
-      chosen (λ (l : List A). length l ≤ length (x ∷ xs)) (p x) _ _ (λ _. omega arith) (λ _. omega arith)
+  kept-le p (x ∷ xs) = grind (arith, kept-le p xs)
 
   pub kept_append : (p : A → Bool) (xs ys : List A) → kept p (xs ++ ys) ≡ kept p xs ++ kept p ys
   kept_append p [] ys = refl
-  kept_append p (x ∷ xs) ys = by (p x) refl (kept_append p xs ys)
-    where
-      by : (b : Bool) → p x ≡ b → kept p (xs ++ ys) ≡ kept p xs ++ kept p ys → kept p ((x ∷ xs) ++ ys) ≡ kept p (x ∷ xs) ++ kept p ys
-      by true e ih = rw e (ap (◌∷◌ x) ih)
-      by false e ih = rw e ih
+  kept_append p (x ∷ xs) ys = grind (arith, kept_append p xs ys)
 
   -- those that pass and those that do not are all
   pub count_kept : (p q : A → Bool) (xs : List A) → count p (kept q xs) + count p (kept (λ (a : A). not (q a)) xs) ≡ count p xs
   count_kept p q [] = refl
-  count_kept p q (x ∷ xs) = by (q x) refl (count_kept p q xs)
-    where
-      by : (b : Bool) → q x ≡ b → count p (kept q xs) + count p (kept (λ (a : A). not (q a)) xs) ≡ count p xs
-          → count p (kept q (x ∷ xs)) + count p (kept (λ (a : A). not (q a)) (x ∷ xs)) ≡ count p (x ∷ xs)
-      by true e ih = rw e (omega arith)
-      by false e ih = rw e (omega arith)
+  count_kept p q (x ∷ xs) = grind (arith, count_kept p q xs)
 
   -- of those that pass q, none that fail it
   pub kept-none : (p q : A → Bool) → ((a : A) → p a ≡ true → q a ≡ false) → (xs : List A) → count p (kept q xs) ≡ 0
   kept-none p q f [] = refl
-  kept-none p q f (x ∷ xs) = by (p x) refl (q x) refl (kept-none p q f xs)
-    where
-      by : (b : Bool) → p x ≡ b → (y : Bool) → q x ≡ y → count p (kept q xs) ≡ 0 → count p (kept q (x ∷ xs)) ≡ 0
-      by b e false g ih = rw g ih
-      by true e true g ih = let z : ◌≡◌ {A = ℕ} 0 1 = cc (f x e) in let n : ⊥ = omega arith in absurd n
-      by false e true g ih = rw (g, e) (omega arith)
+  kept-none p q f (x ∷ xs) = grind (arith, kept-none p q f xs, f x)
 
 module _ {A B : Type 0} where
   -- a test that goes through the view is one test of the list and of its view
@@ -127,9 +96,4 @@ module _ {A B : Type 0} where
   -- the view of those that pass is those of the view
   pub map-kept : (f : A → B) (q : B → Bool) (xs : List A) → map f (kept (λ (a : A). q (f a)) xs) ≡ kept q (map f xs)
   map-kept f q [] = refl
-  map-kept f q (x ∷ xs) = by (q (f x)) refl (map-kept f q xs)
-    where
-      by : (b : Bool) → q (f x) ≡ b → map f (kept (λ (a : A). q (f a)) xs) ≡ kept q (map f xs)
-          → map f (kept (λ (a : A). q (f a)) (x ∷ xs)) ≡ kept q (map f (x ∷ xs))
-      by true e ih = rw e (ap (◌∷◌ (f x)) ih)
-      by false e ih = rw e ih
+  map-kept f q (x ∷ xs) = grind (arith, map-kept f q xs)

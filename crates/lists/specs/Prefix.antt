@@ -1,32 +1,16 @@
 -- Laws on the first elements of a list, at the code's `i + 1`, for loops that count up.
-use Rattle.std.specs.Prelude.{◌≡◌, refl, List, [], ◌∷◌, ◌++◌, map, ℕ, ◌+◌, ◌≤◌, ◌<◌, min, Bool, true, false, leb, ltb, length, take, drop, get_or, set}
-use Rattle.std.proofs.Common.{ap, sym, ◌∙◌, append_assoc, arith, leb-true, leb-false, ltb-true, ltb-false, length-append, length-take, length-drop, take_all, get_or-take, take_at}
+use Rattle.std.specs.Prelude.{◌≡◌, refl, List, [], ◌∷◌, ◌++◌, map, ℕ, ◌+◌, ◌≤◌, ◌<◌, min, length, take, drop, get_or, set}
+use Rattle.std.proofs.Common.{ap, ◌∙◌, append_assoc, arith, length-append, length-take, length-drop, get_or-take, take_at}
 use Rattle.std.proofs.lemmas.List.{map-append, length-map, get_or_at, set_at, take_more, drop_more, map-set, take_more_set}
+use Rattle.std.proofs.lemmas.Grind.{common_steps}
 pub use Rattle.std.proofs.lemmas.List.{take_more, drop_more, map-set, get_or_default as get_d_any}
-use Rattle.std.proofs.Math.ListN.{get_or-map, get_or-append}
+use Rattle.std.proofs.Math.ListN.{get_or-map}
 use Rattle.std.proofs.Math.Seq.{take-set-lt}
 
 module _ {A : Type 0} where
   -- of an array of size m there are no more than m
   pub take_min : (n m : ℕ) (xs : List A) → length xs ≡ m → take (min n m) xs ≡ take n xs
-  take_min n m xs e = by (leb n m) refl
-    where
-      by : (b : Bool) → leb n m ≡ b → take (min n m) xs ≡ take n xs
-      by true h = let q : n ≤ m = leb-true _ _ h in let f : min n m ≡ n = omega arith in rw f
-      by false h =
-          let q : m < n = leb-false _ _ h in
-          take_all (min n m) xs (omega arith) ∙ sym (take_all n xs (omega arith))
-
-  -- what holds of each element and of one more
-  pub each_more : (d : A) (P : A → Type 0) (xs : List A) (a : A) → ((j : ℕ) → j < length xs → P (get_or xs j d)) → P a
-      → (j : ℕ) → j < length xs + 1 → P (get_or (xs ++ (a ∷ [])) j d)
-  each_more d P xs a f g j h = by (ltb j (length xs)) refl
-    where
-      by : (b : Bool) → ltb j (length xs) ≡ b → P (get_or (xs ++ (a ∷ [])) j d)
-      by true e = let q : j < length xs = ltb-true _ _ e in rw (get_or-append xs (a ∷ []) d j q) (f j q)
-      by false e =
-          let q : length xs ≤ j = ltb-false _ _ e in
-          rw (get_or_at xs a [] d j (omega arith)) g
+  take_min n m xs e = grind (arith, common_steps)
 
 module _ {A B : Type 0} where
   -- from the left: what a loop computes
