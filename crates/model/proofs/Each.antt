@@ -110,11 +110,7 @@ aged-on (suc n) e h = let a = aged-on n (ticked e) h in let b = tick-on e.stage 
 
 not-ended : (v : Voice) → is_ended v ≡ false → is_idle v.env.stage ≡ false
 unfolding is_ended is_active
-not-ended v h = by (is_idle v.env.stage) (is_faded v.env) h
-  where
-    by : (a b : Bool) → not (not a) || b ≡ false → a ≡ false
-    by true b h = h
-    by false b h = refl
+not-ended v h = grind arith
 
 tame-aged : (n : ℕ) (v : Voice) → is_ended (aged_voice n v) ≡ false → Tame v (aged_voice n v)
 unfolding aged_voice with_voice
@@ -142,7 +138,7 @@ none-sounds m e = find-missed _ m.voices (ltb-false _ _ e)
 module _ (n : ℕ) (l : List ℕ) (once : (x : ℕ) → times x l ≤ 1) where
   without-once : (x : ℕ) → times x (held_without n l) ≤ 1
   unfolding held_without
-  without-once x = let a = count_kept (λ (y : ℕ). eqb y x) (λ (y : ℕ). not (eqb y n)) l in let b = once x in omega arith
+  without-once x = omega (arith, count_kept (λ (y : ℕ). eqb y x) (λ (y : ℕ). not (eqb y n)) l, once x)
 
   without-none : times n (held_without n l) ≡ 0
   unfolding held_without
@@ -150,31 +146,14 @@ module _ (n : ℕ) (l : List ℕ) (once : (x : ℕ) → times x l ≤ 1) where
 
   with-once : (x : ℕ) → times x (held_with n l) ≤ 1
   unfolding held_with
-  with-once x = by (eqb n x) refl
-    where
-      by : (b : Bool) → eqb n x ≡ b → times x (held_without n l ++ (n ∷ [])) ≤ 1
-      by true e =
-          let q : n ≡ x = eqb-true _ _ e in
-          let a = times-append x (held_without n l) (n ∷ []) in
-          let b : times x (held_without n l) ≡ 0 = ap (λ (y : ℕ). times y (held_without n l)) (sym q) ∙ without-none in
-          let d = one_if-le (eqb n x) in
-          omega arith
-      by false e =
-          let a = times-append x (held_without n l) (n ∷ []) in
-          let b = without-once x in
-          let d : times x (n ∷ []) ≡ 0 = rw e in
-          omega arith
+  with-once x = grind (arith, times-append x (held_without n l) (n ∷ []), without-once x, without-none)
 
 -- ---- the calls
 
 -- frames within Plan's limits fit, and so does no block
 block-frames : (d : InstrumentDesign) (n : ℕ) → frames_fit d n ≡ true → block_fits d n ≡ true
 unfolding block_fits
-block-frames d n e = rw e (by (eqb n 0))
-  where
-    by : (b : Bool) → b || true ≡ true
-    by true = refl
-    by false = refl
+block-frames d n e = grind (arith, e)
 
 pub block_none : (d : InstrumentDesign) → block_fits d 0 ≡ true
 unfolding block_fits
