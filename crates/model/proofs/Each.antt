@@ -1,7 +1,7 @@
 -- Each of the nine calls is a step.
 use mathlib.Core.Path.{◌≡◌, refl, ap, sym, ◌∙◌}
-use mathlib.Core.Bool.{Bool, true, false, not, ◌||◌, cond}
-use mathlib.Core.List.{List, [], ◌∷◌, ◌++◌, map}
+use mathlib.Core.Bool.{Bool, true, false, not, cond}
+use mathlib.Core.List.{List, [], ◌∷◌, map}
 use Prim.Native.Nat.{ℕ, zero, suc, ◌≤◌}
 use native.Mathlib.Omega.{arith}
 use borrow.Author.Tests.{ltb-true, ltb-false, not-true, not-false, eqb-true}
@@ -13,7 +13,7 @@ use Rattle.float32.specs.Numbers.{zero as +0, one, max_of}
 use Rattle.envelope.specs.declared.EnvGen.{EnvGen}
 use Rattle.envelope.specs.declared.Stage.{Stage}
 use Rattle.envelope.specs.declared.Stage.TheVariants.{Idle, Attack, Decay, Sustain, Release}
-use Rattle.envelope.specs.Gates.{is_idle, is_release, at, gated_on, is_active, is_faded}
+use Rattle.envelope.specs.Gates.{is_idle, is_release, at, gated_on, is_active}
 use Rattle.envelope.specs.Ticks.{rise, fall, decline, ticked_attack, ticked_decay, ticked_release, ticked_in, ticked}
 use Rattle.stream.specs.declared.UnisonCopy.{UnisonCopy}
 use Rattle.stream.specs.Pitch.{bent, cut_to, least_cutoff, glided}
@@ -22,7 +22,7 @@ use Rattle.design.specs.declared.PlayMode.{PlayMode}
 use Rattle.design.specs.declared.PlayMode.TheVariants.{Poly, Mono}
 use Rattle.design.specs.Accepted.{modulated}
 use Rattle.lists.specs.Choose.{chosen, clash}
-use Rattle.lists.specs.Count.{one_if-le, count}
+use Rattle.lists.specs.Count.{count}
 use Rattle.lists.specs.Found.{find-passes, find-missed}
 use Rattle.lists.specs.Perms.{times, times-append}
 use Rattle.lists.specs.Places.{count_kept, kept-none}
