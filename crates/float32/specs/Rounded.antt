@@ -1,8 +1,7 @@
 -- What a rounded number keeps of its sign and its size, and which rounded number a sum, a difference and a quotient is.
-use Rattle.std.specs.Prelude.{◌≡◌, Bool, true, false, not, ◌&&◌, ◌||◌, cond, ◌⊎◌, ℕ, zero, suc, ◌+◌, ◌-◌, ◌*◌, ◌%◌, ◌^◌, ◌≤◌, ◌<◌, T, leb, ltb, eqb, ℤ, pos, Float}
+use Rattle.std.specs.Prelude.{◌≡◌, Bool, true, false, not, ◌&&◌, ◌||◌, cond, ℕ, zero, suc, ◌+◌, ◌-◌, ◌*◌, ◌%◌, ◌^◌, ◌≤◌, ◌<◌, T, leb, ltb, eqb, ℤ, pos, Float}
 use Rattle.std.proofs.Math.Path.{refl}
-use Rattle.std.proofs.Common.{sym, ◌∙◌, subst, true≢false, inl, inr, zero-le, eq-or-lt_of_le, lt_of_not-le, zero-mul, zero-lt-suc, mul-one, one-mul, mul-pos, mul-le-mul_right, lt_of_le_of_lt, le_trans, le_of_eq, arith, ltb-true, eqb-true, le-ltb, lt-ltb, eq-eqb, ne_eqb, ltb→lt, leb→le, eqb→eq, lit<, lit≤, pow_pos}
-use Rattle.std.proofs.lemmas.Bool.{false≢true}
+use Rattle.std.proofs.Common.{sym, ◌∙◌, subst, zero-le, zero-mul, zero-lt-suc, mul-one, one-mul, mul-pos, mul-le-mul_right, lt_of_le_of_lt, le_trans, le_of_eq, arith, le-ltb, lt-ltb, ne_eqb, ltb→lt, leb→le, eqb→eq, lit<, lit≤, pow_pos}
 use denote.Floats.{is_true}
 use Rattle.std.specs.Float.{inf, fin, binary32}
 use Rattle.std.specs.Float.Ieee.{up, down, low, prec, emax, of_bits, units, odd, round, sum, add, sub, le, div, unlike, fits}
@@ -67,27 +66,14 @@ round-zero s c p = round_same binary32 s 0 c 0 1 p (zero-lt-suc 0) (sym (zero-mu
     at_one s = unfold round units odd in refl
 
 -- ---- sizes: how `le` compares two numbers that are not negative
-or-true : (x : Bool) → (x || true) ≡ true
-or-true true = refl
-or-true false = refl
-
 pub at_most : (a b : ℕ) → a ≤ b → (ltb a b || (eqb a b && true)) ≡ true
-at_most a b h = by (eq-or-lt_of_le h)
-  where
-    by : (a ≡ b) ⊎ (a < b) → (ltb a b || (eqb a b && true)) ≡ true
-    by (inl e) = rw (eq-eqb a b e) (or-true (ltb a b))
-    by (inr l) = rw (lt-ltb a b l)
+at_most a b h = grind arith
 
 pub at-most-back : (a b : ℕ) → (ltb a b || (eqb a b && true)) ≡ true → a ≤ b
-at-most-back a b = by (ltb a b) (eqb a b) (ltb-true a b) (eqb-true a b)
-  where
-    by : (x y : Bool) → (x ≡ true → a < b) → (y ≡ true → a ≡ b) → (x || (y && true)) ≡ true → a ≤ b
-    by true y f g h = let l = f refl in omega arith
-    by false true f g h = let e = g refl in omega arith
-    by false false f g h = absurd (false≢true h)
+at-most-back a b h = grind arith
 
 pub beyond : (a b : ℕ) → (ltb a b || (eqb a b && true)) ≡ false → b < a
-beyond a b h = lt_of_not-le (λ (g : a ≤ b). true≢false (sym (at_most a b g) ∙ h))
+beyond a b h = grind arith
 
 pub positive-low : {x : Float} → Signed false x → le none x ≡ true
 unfolding le of_bits

@@ -1,37 +1,20 @@
 -- Which results are from 0 on, above 0 or at most 1: of a sum, a difference, a quotient and a product.
-use Rattle.std.specs.Prelude.{◌≡◌, Bool, true, not, ◌&&◌, ◌||◌, cond, ◌⊎◌, ℕ, ◌+◌, ◌-◌, ◌*◌, ◌^◌, ◌≤◌, ◌<◌, T, ltb, eqb, ℤ, pos, Float}
+use Rattle.std.specs.Prelude.{◌≡◌, Bool, true, not, ◌&&◌, cond, ◌⊎◌, ℕ, ◌+◌, ◌-◌, ◌*◌, ◌^◌, ◌≤◌, ◌<◌, T, ltb, eqb, ℤ, pos, Float}
 use Rattle.std.proofs.Math.Path.{refl}
-use Rattle.std.proofs.Common.{sym, ap, ◌∙◌, true≢false, inl, inr, zero-le, zero-mul, zero-lt-suc, mul-one, one-mul, mul-pos, mul_comm, mul-le-mul, mul-le-mul_right, lt_of_le_of_lt, lt_of_lt_of_le, le_of_eq, eq-zero-or-pos, arith, ltb-true, ltb-false, le-ltb, lt-ltb, eq-eqb, ne_eqb, ltb→lt, eqb→eq, pow_pos}
+use Rattle.std.proofs.Common.{sym, ap, ◌∙◌, true≢false, inl, inr, zero-le, zero-mul, zero-lt-suc, mul-one, one-mul, mul-pos, mul_comm, mul-le-mul, mul-le-mul_right, lt_of_le_of_lt, lt_of_lt_of_le, le_of_eq, eq-zero-or-pos, arith, ltb-true, ltb-false, le-ltb, lt-ltb, ne_eqb, ltb→lt, eqb→eq, pow_pos}
 use Rattle.std.proofs.Math.Bool.{false}
 use Rattle.std.proofs.lemmas.Bool.{false≢true}
 use Rattle.std.proofs.Math.Nat.{le_trans}
 use denote.Floats.{passes, is_true}
-use Rattle.std.specs.Float.{nan, inf, fin}
+use Rattle.std.specs.Float.{nan, inf, fin, NotNan, ◌≤ᶠ◌}
+use Rattle.std.proofs.lemmas.Float.{le_left, le_right, le_of_lt, lt_of_not-le, le_of_not-lt, lt_of_le_of_lt as lt_from_le, T_from_true, T_from_false}
 use Rattle.std.specs.Float.Ieee.{up, down, binary32, of_bits, fits, is_nan, units, odd, round, sum, add, sub, mul, div, lt, le}
 use Rattle.std.specs.Float.Ieee.Fits.{up_pos, down_pos, and_r}
 use Rattle.std.specs.Float.Ieee.Order.{round_mono}
 use Rattle.std.specs.Float.Ieee.Scale.{finite}
 use Rattle.std.specs.Float.Ieee.Positive.{above, above_of_le, first_pos}
 use Rattle.float32.specs.Numbers.{zero as none, one}
-use Rattle.float32.specs.Rounded.{
-  empty,
-  near,
-  round-signed,
-  round-zero,
-  at_most,
-  at-most-back,
-  beyond,
-  positive-low,
-  negative-high,
-  round-high,
-  sum_same,
-  sum_more,
-  sum_less,
-  add_is,
-  sub_is,
-  div_is,
-  small,
-}
+use Rattle.float32.specs.Rounded.{empty, round-signed, round-zero, at-most-back, beyond, positive-low, negative-high, round-high, sum_same, sum_more, sum_less, add_is, sub_is, div_is, small}
 
 -- a number with a minus that is not below 0 is -0
 no_minus : (m : ℕ) (e : ℤ) → le none (fin true m e) ≡ true → m ≡ 0
@@ -81,88 +64,28 @@ difference_low false a b c h = rw (sum_more false a b c h) (positive-low (round-
 difference_low true a b c h = rw (sum_same false a b c) (positive-low (round-signed false (a + b) c))
 
 -- ---- comparisons
--- a negative number is at most any number from 0 on
-minus_plus : (a b : ℕ) → (ltb 0 (a + b) || (eqb a b && eqb a 0)) ≡ true
-minus_plus a b = by (eq-zero-or-pos (a + b))
-  where
-    by : (a + b ≡ 0) ⊎ (0 < a + b) → (ltb 0 (a + b) || (eqb a b && eqb a 0)) ≡ true
-    by (inl z) = rw (z, eq-eqb a b (omega arith), eq-eqb a 0 (omega arith))
-    by (inr p) = rw (lt-ltb 0 (a + b) p)
-
-minus_minus : (a b : ℕ) → b ≡ 0 → (ltb b a || (eqb a b && true)) ≡ true
-minus_minus a b z = by (eq-zero-or-pos a)
-  where
-    by : (a ≡ 0) ⊎ (0 < a) → (ltb b a || (eqb a b && true)) ≡ true
-    by (inl y) = rw (le-ltb b a (omega arith), eq-eqb a b (omega arith))
-    by (inr p) = rw (lt-ltb b a (omega arith))
-
-negative-under : (m : ℕ) (e : ℤ) (t : Bool) (n : ℕ) (d : ℤ) → le none (fin t n d) ≡ true → le (fin true m e) (fin t n d) ≡ true
-unfolding le
-negative-under m e false n d h = minus_plus (m * up e * down d) (n * up d * down e)
-negative-under m e true n d h = minus_minus (m * up e * down d) (n * up d * down e) (sign-tells true n d e h refl)
-
 -- what is not under a number from 0 on is from 0 on itself
 pub not-under : (v z : Float) → is_nan v ≡ false → le none z ≡ true → le v z ≡ false → le none v ≡ true
-unfolding is_nan le of_bits
-not-under v nan n h k = absurd (false≢true h)
-not-under v (inf true) n h k = absurd (false≢true h)
-not-under nan (inf false) n h k = absurd (true≢false n)
-not-under (inf true) (inf false) n h k = absurd (true≢false k)
-not-under (inf false) (inf false) n h k = refl
-not-under (fin s m e) (inf false) n h k = absurd (true≢false k)
-not-under nan (fin t o d) n h k = absurd (true≢false n)
-not-under (inf true) (fin t o d) n h k = absurd (true≢false k)
-not-under (inf false) (fin t o d) n h k = refl
-not-under (fin false m e) (fin t o d) n h k = positive-low (near m e)
-not-under (fin true m e) (fin t o d) n h k = absurd (true≢false (sym (negative-under m e t o d h) ∙ k))
+not-under v z n h k =
+    let t : none ≤ᶠ z = T_from_true _ h in
+    is_true _ (le_of_lt none v (lt_from_le none z v t (lt_of_not-le v z (T_from_false _ n) (le_right none z t) (T_from_false _ k))))
 
 -- a NaN is not compared
-pub le-numbers : (v w : Float) → le v w ≡ true → (is_nan v ≡ false) × (is_nan w ≡ false)
-unfolding is_nan le
-le-numbers nan w h = absurd (false≢true h)
-le-numbers (inf s) nan h = absurd (false≢true h)
-le-numbers (inf s) (inf t) h = (refl, refl)
-le-numbers (inf s) (fin t n d) h = (refl, refl)
-le-numbers (fin s m e) nan h = absurd (false≢true h)
-le-numbers (fin s m e) (inf t) h = (refl, refl)
-le-numbers (fin s m e) (fin t n d) h = (refl, refl)
+a_number : (x : Float) → NotNan x → is_nan x ≡ false
+unfolding is_nan
+a_number nan t = absurd t
+a_number (inf s) t = refl
+a_number (fin s m e) t = refl
 
--- of two numbers, what is not below the other has it at most as large
-turned : (a b : ℕ) → a ≤ b → (ltb a b || (eqb b a && true)) ≡ true
-turned a b h = by (ltb a b) refl
-  where
-    by : (x : Bool) → ltb a b ≡ x → (ltb a b || (eqb b a && true)) ≡ true
-    by true l = rw l
-    by false l = let k : b ≤ a = ltb-false a b l in rw (l, eq-eqb b a (omega arith))
+pub le-numbers : (v w : Float) → le v w ≡ true → (is_nan v ≡ false) × (is_nan w ≡ false)
+le-numbers v w h = (a_number v (le_left v w (T_from_true _ h)), a_number w (le_right v w (T_from_true _ h)))
 
 pub not-below : (v w : Float) → is_nan v ≡ false → is_nan w ≡ false → lt v w ≡ false → le w v ≡ true
-unfolding is_nan le
-not-below nan w p q h = absurd (true≢false p)
-not-below (inf s) nan p q h = absurd (true≢false q)
-not-below (fin s m e) nan p q h = absurd (true≢false q)
-not-below (inf false) (inf false) p q h = refl
-not-below (inf false) (inf true) p q h = refl
-not-below (inf true) (inf false) p q h = absurd (true≢false h)
-not-below (inf true) (inf true) p q h = refl
-not-below (inf false) (fin t n d) p q h = refl
-not-below (inf true) (fin t n d) p q h = absurd (true≢false h)
-not-below (fin s m e) (inf false) p q h = absurd (true≢false h)
-not-below (fin s m e) (inf true) p q h = refl
-not-below (fin false m e) (fin false n d) p q h = at_most (n * up d * down e) (m * up e * down d) (ltb-false (m * up e * down d) (n * up d * down e) h)
-not-below (fin false m e) (fin true n d) p q h = minus_plus (n * up d * down e) (m * up e * down d)
-not-below (fin true m e) (fin false n d) p q h =
-    let a : m * up e * down d + n * up d * down e ≤ 0 = ltb-false 0 (m * up e * down d + n * up d * down e) h in
-    rw (eq-eqb (n * up d * down e) (m * up e * down d) (omega arith), eq-eqb (n * up d * down e) 0 (omega arith))
-not-below (fin true m e) (fin true n d) p q h = turned (m * up e * down d) (n * up d * down e) (ltb-false (n * up d * down e) (m * up e * down d) h)
+not-below v w p q h = is_true _ (le_of_not-lt v w (T_from_false _ p) (T_from_false _ q) (T_from_false _ h))
 
 -- what is from 0 on and not from 1 on is at most 1
 pub short-of-one : (v : Float) → le none v ≡ true → le one v ≡ false → le v one ≡ true
-unfolding le of_bits
-short-of-one nan h k = absurd (false≢true h)
-short-of-one (inf true) h k = refl
-short-of-one (inf false) h k = absurd (true≢false k)
-short-of-one (fin true m e) h k = negative-high (near m e)
-short-of-one (fin false m e) h k = at_most (m * up e * 1) (1 * down e) (let l = beyond (1 * down e) (m * up e * 1) k in omega arith)
+short-of-one v h k = is_true _ (le_of_lt v one (lt_of_not-le one v (unfold is_nan of_bits in tt) (le_right none v (T_from_true _ h)) (T_from_false _ k)))
 
 -- what is from 0 to 1 is finite
 pub bounded-finite : (x : Float) → le none x ≡ true → le x one ≡ true → finite x ≡ true
@@ -241,7 +164,7 @@ quotient-nonnegative (fin false m e) (fin false n d) f h k = ap (le none) (div_i
 -- ---- a number above 0 by a number from 1 on
 above_zero : (s : Bool) (m : ℕ) (e : ℤ) → le (fin s m e) none ≡ false → (s ≡ false) × (0 < m)
 unfolding le of_bits
-above_zero true m e h = absurd (true≢false (sym (negative-under m e false 0 (pos 0) (positive-low (near 0 (pos 0)))) ∙ h))
+above_zero true m e h = absurd (unfold lt is_nan of_bits in lt_of_not-le (fin true m e) none tt tt (T_from_false _ h))
 above_zero false m e h = (refl, above-none m e (beyond (m * up e * 1) (0 * down e) h))
 
 from_one : (s : Bool) (m : ℕ) (e : ℤ) → le one (fin s m e) ≡ true → (s ≡ false) × (down e ≤ m * up e)

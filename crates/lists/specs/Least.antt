@@ -53,7 +53,7 @@ module _ {A : Type 0} (d : A) (below : A → A → Bool) (p : A → Bool) where
         low-at (suc j) h q = f j (omega arith) q
 
     tail-low : (a : A) (rest : List A) (k : ℕ) → (p a ≡ true → below (get_or rest k d) a ≡ true) → Lowest rest k → Lowest (a ∷ rest) (suc k)
-    tail-low a rest k f l = record { inside = let i = l.inside in omega arith; passes = l.passes; low = low-at; first = first-at }
+    tail-low a rest k f l = record { inside = omega (arith, l.inside); passes = l.passes; low = low-at; first = first-at }
       where
         low-at : (j : ℕ) → j < length (a ∷ rest) → p (get_or (a ∷ rest) j d) ≡ true → below (get_or (a ∷ rest) j d) (get_or rest k d) ≡ false
         low-at zero h q = o.one_way (get_or rest k d) a (f q)

@@ -59,7 +59,7 @@ module _ {A : Type 0} where
       ap (λ (j : ℕ). take k (drop at (set l j x))) (sym e) ∙ ap (take k) (drop-set-add at l (i - at) x) ∙ take-set-le k (drop at l) (i - at) x (omega arith)
 
   pub length-snoc : (xs : List A) (a : A) (k : ℕ) → length xs ≡ k → length (xs ++ (a ∷ [])) ≡ suc k
-  length-snoc xs a k e = let b = length-append xs (a ∷ []) in omega arith
+  length-snoc xs a k e = omega (arith, length-append xs (a ∷ []))
 
   pub head-same : {x y : A} {xs ys : List A} → x ∷ xs ≡ y ∷ ys → x ≡ y
   head-same e = cc

@@ -48,11 +48,7 @@ split {h} (Memᴰ.tail {x = x} {xs = xs} m) =
 -- lists in which every number stands equally often are permutations
 module _ (x : ℕ) (xs front back : List ℕ) where
   rest : ((h : ℕ) → times h (x ∷ xs) ≡ times h (front ++ (x ∷ back))) → (h : ℕ) → times h xs ≡ times h (front ++ back)
-  rest e h =
-      let a = e h in
-      let b = times-append h front (x ∷ back) in
-      let c = times-append h front back in
-      omega arith
+  rest e h = omega (arith, e h, times-append h front (x ∷ back), times-append h front back)
 
   placed : Perm xs (front ++ back) → Perm (x ∷ xs) (front ++ (x ∷ back))
   placed p = Perm.trans (Perm.cons x p) (Perm.symm (perm_middle front back))
@@ -71,7 +67,7 @@ nodup-of-times [] e = Nodup-nil
 nodup-of-times (x ∷ xs) e =
     Nodup-cons.1 (
       λ m. let k : 1 ≤ times x xs = counted-in m in let z = e x in grind arith,
-      nodup-of-times xs (λ h. let z = e h in omega arith),
+      nodup-of-times xs (λ h. omega (arith, e h)),
     )
 
 -- no number stands twice, as a test
@@ -81,7 +77,7 @@ distinct (x ∷ xs) = eqb (times x xs) 0 && distinct xs
 
 pub distinct-of-times : (l : List ℕ) → ((h : ℕ) → times h l ≤ 1) → distinct l ≡ true
 distinct-of-times [] e = refl
-distinct-of-times (x ∷ xs) e = grind (arith, distinct-of-times xs (λ h. let z = e h in omega arith), e x)
+distinct-of-times (x ∷ xs) e = grind (arith, distinct-of-times xs (λ h. omega (arith, e h)), e x)
 
 pub times-of-distinct : (l : List ℕ) → distinct l ≡ true → (h : ℕ) → times h l ≤ 1
 times-of-distinct [] e h = omega arith
@@ -128,4 +124,4 @@ tally-less (suc k) n l p z h = grind (arith, tally-less k n l, tally-most k l h,
 
 -- numbers below k, none twice and n not among them, are fewer than k
 pub distinct-short : (k n : ℕ) (l : List ℕ) → n < k → all (λ (x : ℕ). ltb x k) l ≡ true → times n l ≡ 0 → ((y : ℕ) → times y l ≤ 1) → length l < k
-distinct-short k n l p a z h = let t = tally-all k l a in let s = tally-less k n l p z h in omega arith
+distinct-short k n l p a z h = omega (arith, tally-all k l a, tally-less k n l p z h)
