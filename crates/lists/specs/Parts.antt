@@ -7,8 +7,7 @@ use mathlib.Core.List.{List, [], ◌∷◌, ◌++◌, flat_map, append_assoc, ap
 use Rattle.std.proofs.Math.Nat.{mul-suc}
 use native.Mathlib.Omega.{arith}
 use Rattle.std.proofs.Math.ListN.{length-append}
-use Rattle.std.proofs.Math.Seq.{drop-append_seam}
-use Rattle.std.proofs.lemmas.List.{drop-set-add, take-set-le, drop-replicate, take-replicate, drop-take}
+use Rattle.std.proofs.lemmas.List.{drop_at, drop-set-add, take-set-le, drop-replicate, take-replicate, drop-take}
 use Rattle.std.proofs.lemmas.Grind.{common_steps}
 pub use Rattle.std.proofs.lemmas.List.{drop-replicate, nil_from_length as no_length}
 use Rattle.lists.specs.Prefix.{take_more}
@@ -29,10 +28,8 @@ module _ {A : Type 0} where
   -- and those behind are as they were
   pub part-rest : (at k : ℕ) (xs ys : List A) → at + k ≤ length xs → length ys ≡ k → drop (at + k) (take at xs ++ (ys ++ drop k (drop at xs))) ≡ drop (at + k) xs
   part-rest at k xs ys h e =
-      let front = take at xs ++ ys in
-      let l : length front ≡ at + k = simp (length-append, length-take) (omega arith) in
-      let seam : drop (at + k) (front ++ drop k (drop at xs)) ≡ drop k (drop at xs) = rw l at (drop-append_seam front (drop k (drop at xs))) in
-      rw (← append_assoc (take at xs) ys (drop k (drop at xs))) (seam ∙ drop-drop k at xs)
+      rw (← append_assoc (take at xs) ys (drop k (drop at xs)))
+      (drop_at (take at xs ++ ys) (drop k (drop at xs)) (at + k) (simp (length-append, length-take) (omega arith)) ∙ drop-drop k at xs)
 
 module _ {A : Type 0} where
   -- a part of a front is that part of the whole
@@ -93,16 +90,10 @@ module _ {A B : Type 0} (f : A → List B) where
   pub length-flat : (n : ℕ) → ((a : A) → length (f a) ≡ n) → (xs : List A) → length (flat_map f xs) ≡ n * length xs
   unfolding flat_map
   length-flat n h [] = omega arith
-  length-flat n h (x ∷ xs) =
-      let a = length-append (f x) (flat_map f xs) in
-      let b = length-flat n h xs in
-      let c = h x in
-      rw mul-suc (omega arith)
+  length-flat n h (x ∷ xs) = rw mul-suc (omega (arith, length-append (f x) (flat_map f xs), length-flat n h xs, h x))
 
 -- a part of k further leaves one part less
 pub parts-left : (at k n j l : ℕ) → j < n → at + k * (n - j) ≡ l → at + k + k * (n - (j + 1)) ≡ l
 parts-left at k n j l h e =
     let s : n - j ≡ suc (n - (j + 1)) = omega arith in
-    let m = mul-suc k (n - (j + 1)) in
-    let q : at + k * suc (n - (j + 1)) ≡ l = rw s at e in
-    omega (arith, m)
+    omega (arith, mul-suc k (n - (j + 1)), rw s at e)

@@ -90,15 +90,12 @@ module _ {A B : Type 0} where
       where
         by : (b : Bool) → ltb k n ≡ b → map s (take (length (without k (map s (take n vs)))) ws) ≡ without k (map s (take n vs))
         by true q =
-            let k-in : k < n = ltb-true k n q in
-            let w = m.within k-in in
+            let w = m.within (ltb-true k n q) in
             let e : i ≡ n = omega arith in
             let front : map s (take (n - 1) ws) ≡ without k (map s (take n vs)) = rw e at m.pass.front in
-            let z = m.pass.size in
-            let long : length (map s (take (n - 1) ws)) ≡ n - 1 = simp (length-map, length-take) (omega arith) in
+            let long : length (map s (take (n - 1) ws)) ≡ n - 1 = simp (length-map, length-take) (omega (arith, m.pass.size)) in
             ap (λ (j : ℕ). map s (take j ws)) (ap length (sym front) ∙ long) ∙ front
         by false q =
             let k-past : n ≤ k = ltb-false k n q in
             let long : length (map s (take n vs)) ≡ n = simp (length-map, length-take) (omega arith) in
-            let past : without k (map s (take n vs)) ≡ map s (take n vs) = without-past k (map s (take n vs)) (omega arith) in
-            rw (past, long, m.none k-past)
+            rw (without-past k (map s (take n vs)) (omega arith), long, m.none k-past)

@@ -6,7 +6,6 @@ use mathlib.Core.List.{List, [], ◌∷◌, ◌++◌, Memᴰ, Mem, Nodup, Nodup-
 use Rattle.std.proofs.Math.Logic.{∥∥₁_elim}
 use Rattle.std.proofs.Math.Bridge.{le_prop}
 use Rattle.lists.specs.All.{all}
-use Rattle.lists.specs.All.{all}
 use Rattle.lists.specs.Count.{one_if, count, count-append}
 
 -- how often h stands in the list
