@@ -1,5 +1,5 @@
 -- Every element passes a test.
-use Rattle.std.specs.Prelude.{◌≡◌, refl, Bool, true, not, ◌&&◌, List, [], ◌∷◌, map}
+use Rattle.std.specs.Prelude.{◌≡◌, refl, Bool, true, not, ◌&&◌, List, [], ◌∷◌, map, ℕ, zero, suc, ◌<◌, length, get_or}
 use Rattle.std.proofs.Common.{arith}
 use Rattle.lists.specs.Count.{count}
 use Rattle.lists.specs.Places.{kept}
@@ -17,6 +17,12 @@ module _ {A : Type 0} (p : A → Bool) where
   pub none-all : (xs : List A) → count (λ (a : A). not (p a)) xs ≡ 0 → all xs ≡ true
   none-all [] e = refl
   none-all (x ∷ xs) e = grind (arith, none-all xs)
+
+module _ {A : Type 0} (p : A → Bool) where
+  pub all-at : (xs : List A) (j : ℕ) (d : A) → j < length xs → all p xs ≡ true → p (get_or xs j d) ≡ true
+  all-at [] j d h e = absurd (omega arith)
+  all-at (x ∷ xs) zero d h e = grind arith
+  all-at (x ∷ xs) (suc j) d h e = grind (arith, all-at xs j d)
 
 module _ {A : Type 0} (p q : A → Bool) where
   -- two tests at once

@@ -1,8 +1,9 @@
 -- The place of the first of the lowest among the elements that pass a test, by an order given as a test `below`.
 -- Two facts of the order serve: it never holds both ways, and not being above is transitive.
-use Rattle.std.specs.Prelude.{◌≡◌, refl, Bool, true, false, not, ◌&&◌, ◌||◌, cond, List, [], ◌∷◌, ◌++◌, ℕ, zero, suc, ◌+◌, ◌≤◌, ◌<◌, leb, eqb, length, get_or, take}
+use Rattle.std.specs.Prelude.{◌≡◌, refl, Bool, true, false, not, ◌&&◌, ◌||◌, cond, List, [], ◌∷◌, ◌++◌, map, ℕ, zero, suc, ◌+◌, ◌≤◌, ◌<◌, leb, eqb, length, get_or, take}
 use Rattle.std.proofs.Common.{arith, leb-true, leb-false}
-use Rattle.std.proofs.Math.ListN.{get_or-append}
+use Rattle.std.proofs.Math.ListN.{get_or-map, get_or-append}
+use Rattle.std.proofs.lemmas.List.{length-map}
 use Rattle.std.proofs.lemmas.Grind.{common_steps}
 use Rattle.lists.specs.Choose.{clash}
 use Rattle.lists.specs.Count.{one_if, count, count-append, count_at}
@@ -138,3 +139,11 @@ module _ {A : Type 0} (d : A) (below : A → A → Bool) (p : A → Bool) where
     pub lowest-more : (xs : List A) (i : ℕ) → i < length xs
         → lowest (take (i + 1) xs) ≡ lowest_next i (lowest (take i xs)) (p (get_or xs i d)) (below (get_or xs i d) (get_or xs (lowest (take i xs)) d))
     lowest-more xs i h = grind (arith, common_steps, take_more xs i d, lowest-snoc (take i xs) (get_or xs i d), lowest-le (take i xs))
+
+-- an order and a test that go through a view are those of the view
+pub lowest-map : {A B : Type 0} (f : A → B) (d : A) (below : A → A → Bool) (p : A → Bool) (under : B → B → Bool) (q : B → Bool)
+    → ((a b : A) → below a b ≡ under (f a) (f b)) → ((a : A) → p a ≡ q (f a)) → (xs : List A) → lowest d below p xs ≡ lowest (f d) under q (map f xs)
+lowest-map f d below p under q h g [] = refl
+lowest-map f d below p under q h g (a ∷ rest) =
+    let k = lowest d below p rest in
+    grind (arith, lowest-map f d below p under q h g rest, h (get_or rest k d) a, g a, get_or-map f rest k d, length-map rest f)

@@ -40,6 +40,12 @@ module _ {A : Type 0} where
       → count p (drop i xs) ≡ one_if (p (get_or xs i d)) + count p (drop (i + 1) xs)
   count_left p xs i d h = rw (drop_more xs i d)
 
+  pub without-split : (k : ℕ) (xs : List A) → without k xs ≡ take k xs ++ drop (suc k) xs
+  without-split zero [] = refl
+  without-split (suc k) [] = refl
+  without-split zero (x ∷ xs) = refl
+  without-split (suc k) (x ∷ xs) = grind (arith, without-split k xs)
+
   -- a removal that moves down one after the other
   pub without-none : (k : ℕ) (xs : List A) → without k (take (k + 1) xs) ≡ take k xs
   without-none zero [] = refl
@@ -87,6 +93,11 @@ module _ {A : Type 0} where
 
 module _ {A B : Type 0} where
   -- a test that goes through the view is one test of the list and of its view
+
+  -- a test that goes through the view is one test of the list and of its view
+  pub find-map : (f : A → B) (p : A → Bool) (q : B → Bool) → ((a : A) → p a ≡ q (f a)) → (xs : List A) → find_at p xs ≡ find_at q (map f xs)
+  find-map f p q h [] = refl
+  find-map f p q h (x ∷ xs) = rw (h x, find-map f p q h xs)
 
   pub map-without : (f : A → B) (k : ℕ) (xs : List A) → map f (without k xs) ≡ without k (map f xs)
   map-without f k [] = refl
