@@ -2,8 +2,8 @@ use Rattle.held.proofs.Holding.{keeping_start, keeping-more, keeping-skip, keepi
 use borrow.Author.Rules.{rules}
 use mathlib.Core.Path.{◌≡◌}
 use native.Mathlib.Omega.{arith}
-use Prim.Native.Nat.{ℕ, ◌<◌, ◌≤◌}
-use lib.ListN.{length, take, length-take}
+use Prim.Native.Nat.{◌<◌}
+use lib.ListN.{length, length-take}
 use Rattle.held.proofs.Held.without.Goals as goal
 use Rattle.held.proofs.Held.without.Goals.{then-other-note, else-other-note}
 
