@@ -1,34 +1,24 @@
-use mathlib.Core.Path.{◌≡◌, ap, sym, ◌∙◌}
-use Prim.Native.Nat.{ℕ}
-use Rattle.lists.specs.Perms.{distinct}
-use Rattle.held.specs.View.{held_first}
-use Rattle.held.proofs.Flags.{flags-start, flags-more, flags-fail, held-least}
-use Rattle.held.proofs.Sizes.{notes-long}
+use mathlib.Core.Path.{sym, refl}
 use native.Mathlib.Omega.{arith}
+use Rattle.held.proofs.Flags.{flags-start, flags-more, flags-fail, flags-end}
 use Rattle.held.proofs.Held.distinct.Goals as goal
 
-pub loop-i-init : goal.loop-i-init
-loop-i-init c = (omega arith, flags-start _ c.no_flags-seen.result c.no_flags-seen.ensures)
+pub loop-note-init : goal.loop-note-init
+loop-note-init c = flags-start _ _ refl
 
-pub returns-then-seen-x : goal.returns-then-seen-x
-returns-then-seen-x c =
-    let h = c.args.self in
-    let l = notes-long h c.well_formed.0 in
-    sym (ap distinct (sym (held-least h.count h.notes l c.min-end.result c.min-end.ensures))
-    ∙ flags-fail h.notes c.loop-i.i _ c.loop-i.seen (omega arith) c.loop-i.invariant.1
-    c.place-x.result c.place-x.ensures.0 c.place-x.ensures.1 c.min-end.result c.loop-i-test.true c.if-seen-x.true)
+pub returns-then-seen-place : goal.returns-then-seen-place
+returns-then-seen-place c =
+    let xs = c.as_slice-note-items.result.now in
+    let twice = flags-fail xs c.loop-note.note-index (record { 0 = 0 }) c.loop-note.seen c.loop-note-test.true c.loop-note.invariant _ refl (omega arith) c.if-seen-place.true in
+    rw c.as_slice-note-items.ensures at (sym twice)
 
-pub loop-i-preserved : goal.loop-i-preserved
-loop-i-preserved c =
-    let h = c.args.self in
-    let l = notes-long h c.well_formed.0 in (
-      omega arith,
-      flags-more h.notes c.loop-i.i _ c.loop-i.seen (omega arith) c.loop-i.invariant.1 c.place-x.result c.place-x.ensures.0 c.place-x.ensures.1 c.if-seen-x.false,
-    )
+pub loop-note-preserved : goal.loop-note-preserved
+loop-note-preserved c =
+    let xs = c.as_slice-note-items.result.now in
+    flags-more xs c.loop-note.note-index (record { 0 = 0 }) c.loop-note.seen c.loop-note-test.true c.loop-note.invariant _ refl (omega arith) c.if-seen-place.false
 
 pub returns : goal.returns
 returns c =
-    let h = c.args.self in
-    let l = notes-long h c.well_formed.0 in
-    let e : c.min-end.result ≡ c.loop-i.i = omega arith in
-    sym (ap distinct (sym (held-least h.count h.notes l c.min-end.result c.min-end.ensures) ∙ ap (λ (k : ℕ). held_first k h.notes) e) ∙ c.loop-i.invariant.1.once)
+    let xs = c.as_slice-note-items.result.now in
+    let once = flags-end xs c.loop-note.note-index c.loop-note.seen c.loop-note-test.false c.loop-note.invariant in
+    rw c.as_slice-note-items.ensures at (sym once)

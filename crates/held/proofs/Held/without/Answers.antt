@@ -1,27 +1,39 @@
-use mathlib.Core.Path.{sym, ◌∙◌}
-use Rattle.held.proofs.Holding.{keeping_start, keeping-more, keeping-skip, keeping-end}
-use Rattle.held.proofs.Sizes.{notes-long}
+use mathlib.Core.Path.{◌≡◌, ap}
+use Prim.Native.Nat.{◌<◌}
 use native.Mathlib.Omega.{arith}
+use borrow.Author.Rules.{rules}
+use lib.ListN.{length, length-take}
+use Rattle.held.proofs.Holding.{keeping_start, keeping-more, keeping-skip, keeping-end}
 use Rattle.held.proofs.Held.without.Goals as goal
-use Rattle.held.proofs.Held.without.Goals.{then-place-note, else-place-note}
+use Rattle.held.proofs.Held.without.Goals.{then-other-note, else-other-note}
 
-pub loop-i-init : goal.loop-i-init
-loop-i-init c = (omega arith, keeping_start _ _)
+pub loop-other-init : goal.loop-other-init
+loop-other-init c = keeping_start _ _ _ (search rules)
 
-pub loop-i-preserved : goal.loop-i-preserved
-loop-i-preserved c =
-    let h = c.args.self in
-    let l = notes-long h c.well_formed.0 in
-    let p = c.place.ensures in
-    (elim c.if-place-note.branch [
-      | then-place-note w ↦ (
-        omega arith,
-        rw (w.notes-is, w.count-is) (keeping-more h.notes _ _ c.loop-i.i c.loop-i.notes _ (omega arith) c.loop-i.invariant.1 (omega arith) (λ e. w.if-place-note.true (p.0 ∙ e))),
-      )
-      | else-place-note w ↦ (omega arith, rw (w.notes-is, w.count-is) (keeping-skip h.notes _ _ c.loop-i.i c.loop-i.notes _ (omega arith) c.loop-i.invariant.1 (sym p.0 ∙ w.if-place-note.false)))
+pub loop-other-preserved : goal.loop-other-preserved
+loop-other-preserved c =
+    let h = c.args.self.now in
+    let s = c.as_slice-other-items in
+    let size = length-take h.count h.notes in
+    let few = ap length s.ensures in
+    let long : length h.notes ≡ 256 = search rules in
+    let k = c.loop-other.invariant in
+    let small : c.loop-other.count < 256 = omega arith in
+    (elim c.if-other-note.branch [
+      | then-other-note w ↦
+          rw (w.notes-is, w.count-is) (keeping-more s.result.now _ _ _ _ (record { 0 = 0 }) c.loop-other-test.true k (omega arith) small w.if-other-note.true)
+      | else-other-note w ↦ rw (w.notes-is, w.count-is) (keeping-skip s.result.now _ _ _ _ (record { 0 = 0 }) c.loop-other-test.true k w.if-other-note.false)
     ])
 
 pub returns : goal.returns
 returns c =
-    let h = c.args.self in
-    keeping-end h (notes-long h c.well_formed.0) _ c.min-end.result c.loop-i.i _ _ c.min-end.ensures (omega arith) c.loop-i.invariant.1
+    let h = c.args.self.now in
+    let s = c.as_slice-other-items in
+    let size = length-take h.count h.notes in
+    let few = ap length s.ensures in
+    let long : length h.notes ≡ 256 = search rules in
+    let k = c.loop-other.invariant in
+    let o = k.order in
+    let q = c.loop-other.auto in
+    let e = keeping-end s.result.now c.args.note _ c.loop-other.other-index _ c.loop-other-test.false (omega arith) k in
+    rw s.ensures at e
