@@ -57,13 +57,6 @@ module _ {A : Type 0} (T : A → List ℕ) (F : A → Type 0) (E : List ℕ → 
   pub stop : (v : A) (rest : List ℕ) → ReadAs T F E l None → F v → E rest → l ≡ T v ++ rest → ⊥
   stop v rest p f g s = let e = p.only v rest (record { whole = s; fits = f; ends = g }) in cc
 
-  -- the same where the part is the first of a longer one
-  pub step-in : (a : A) (m : List ℕ) (v : A) (more rest : List ℕ) → ReadAs T F E l (Some (a, m)) → F v → E (more ++ rest) → l ≡ (T v ++ more) ++ rest → m ≡ more ++ rest
-  step-in a m v more rest p f g s = step a m v (more ++ rest) p f g (s ∙ append_assoc (T v) more rest)
-
-  pub stop-in : (v : A) (more rest : List ℕ) → ReadAs T F E l None → F v → E (more ++ rest) → l ≡ (T v ++ more) ++ rest → ⊥
-  stop-in v more rest p f g s = stop v (more ++ rest) p f g (s ∙ append_assoc (T v) more rest)
-
 module _ {A B : Type 0} (TA : A → List ℕ) (FA : A → Type 0) (EA : List ℕ → Type 0) (TB : B → List ℕ) (FB : B → Type 0) (EB : List ℕ → Type 0) (l : List ℕ) where
   pub and_then : (a : A) (m : List ℕ) (b : B) (n : List ℕ) → ReadAs TA FA EA l (Some (a, m)) → ReadAs TB FB EB m (Some (b, n))
       → ((w : B) (rest : List ℕ) → EB rest → EA (TB w ++ rest))
@@ -113,10 +106,6 @@ pub ended : (words l : List ℕ) → l ≡ words → ReadAs (λ (u : Unit {0}). 
 ended words l e = read-some (λ (u : Unit {0}). words) (λ u. Unit) AtEnd l tt []
     (record { whole = e ∙ sym (append-nil words); fits = tt; ends = refl })
     (λ u rest f g h. (refl, append_cancel_left words _ _ h))
-
-module _ {A : Type 0} (T : A → List ℕ) (F : A → Type 0) (E : List ℕ → Type 0) (l : List ℕ) where
-  pub part-none : ((f : A) (rest : List ℕ) → F f → E rest → l ≡ T f ++ rest → ⊥) → ReadAs T F E l None
-  part-none k = read-none T F E l (λ v rest g. k v rest g.fits g.ends g.whole)
 
 module _ {A : Type 0} (T : A → List ℕ) (F : A → Type 0) (l : List ℕ) where
   pub line-none : ((f : A) → F f → l ≡ T f → ⊥) → LineOf T F l None

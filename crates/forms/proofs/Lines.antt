@@ -177,22 +177,6 @@ module _ (l : List ℕ) (h : length l ≤ 256) where
       same (On f) s = clash 100 111 _ _ l (λ z. omega arith) (p.yes d refl).1 s.2
       same Voices s = clash 100 118 _ _ l (λ z. omega arith) (p.yes d refl).1 s.1
 
-  pub is-on : (o : OnForm) → OnAs l (Some o) → FormAs l (Some (On o))
-  is-on o p = let y = p.yes o refl in form-some l (On o) (h, y.0, y.1) same
-    where
-      same : (f : Form) → Says l f → On o ≡ f
-      same (Design f) s = clash 111 100 _ _ l (λ z. omega arith) (p.yes o refl).1 s.2
-      same (On f) s = let e = p.only f s.1 s.2 in cc
-      same Voices s = clash 111 118 _ _ l (λ z. omega arith) (p.yes o refl).1 s.1
-
-  pub is-voices : l ≡ voices → FormAs l (Some Voices)
-  is-voices e = form-some l Voices (h, e) same
-    where
-      same : (f : Form) → Says l f → Voices ≡ f
-      same (Design f) s = clash 118 100 _ _ l (λ z. omega arith) e s.2
-      same (On f) s = clash 118 111 _ _ l (λ z. omega arith) e s.2
-      same Voices s = refl
-
   pub is_none : DesignAs l None → OnAs l None → (l ≡ voices → ⊥) → FormAs l None
   is_none p q v = record { says = λ f e. let z : ⊥ = cc in absurd z; only = none }
     where

@@ -4,12 +4,12 @@ use mathlib.Core.Bool.{true, false}
 use mathlib.Core.List.{List, ◌∷◌, ◌++◌, append_cancel_left}
 use Prim.Native.Nat.{ℕ}
 use native.Mathlib.Omega.{arith}
-use Rattle.std.proofs.Common.{Some, None}
+use Rattle.std.proofs.Common.{Some}
 use Rattle.lists.specs.Parts.{head-same}
 use Rattle.design.specs.declared.PlayMode.{PlayMode}
 use Rattle.design.specs.declared.PlayMode.TheVariants.{Poly, Mono}
 use Rattle.text.specs.Read.{ReadAs, Any}
-use Rattle.text.proofs.Once.{read-none, read-some}
+use Rattle.text.proofs.Once.{read-some}
 use Rattle.forms.specs.Forms.{poly, mono, legato, mode_text}
 use Rattle.forms.specs.Parts.{AnyMode}
 
@@ -30,12 +30,3 @@ same (Mono true) (Mono true) more rest e = (refl, append_cancel_left legato more
 module _ (l : List ℕ) where
   pub mode-some : (v : PlayMode) (rest : List ℕ) → l ≡ mode_text v ++ rest → ReadAs mode_text AnyMode Any l (Some (v, rest))
   mode-some v rest p = read-some mode_text AnyMode Any l v rest (record { whole = p; fits = tt; ends = tt }) (λ w more f g e. same v w rest more e)
-
-  pub mode-none : ((rest : List ℕ) → l ≡ poly ++ rest → ⊥) → ((rest : List ℕ) → l ≡ mono ++ rest → ⊥) → ((rest : List ℕ) → l ≡ legato ++ rest → ⊥)
-      → ReadAs mode_text AnyMode Any l None
-  mode-none p q r = read-none mode_text AnyMode Any l (λ v rest g. by v rest g.whole)
-    where
-      by : (v : PlayMode) (rest : List ℕ) → l ≡ mode_text v ++ rest → ⊥
-      by Poly = p
-      by (Mono false) = q
-      by (Mono true) = r
