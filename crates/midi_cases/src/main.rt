@@ -5,7 +5,6 @@
 use lines::Line;
 use midi::Cursor;
 use std::io;
-use std::io::Read;
 
 mod parse;
 mod show;
@@ -36,17 +35,11 @@ fn end_line(rt: &impl Print, line: &[u8]) -> io::Result<()> {
     answer_line(rt, line, &mut stream)
 }
 
-// Nothing says that the input ends, so the turns are counted.
 fn main(rt: HostRuntime) -> io::Result<()> {
-    let mut input = rt.stdin();
     let mut buffer = [0; 4096];
     let mut line = Line::<257>::new();
-    for _ in 0..u64::MAX {
-        let count = input.read(&mut buffer)?;
-        if count == 0 {
-            break;
-        }
-        line.take(&buffer[..count], |text| end_line(&rt, text))?;
-    }
+    lines::blocks(&mut rt.stdin(), &mut buffer, |block| {
+        line.take(block, |text| end_line(&rt, text))
+    })?;
     line.finish(|text| end_line(&rt, text))
 }
