@@ -10,6 +10,7 @@ use native.Mathlib.Omega.{arith}
 use lib.ListN.{length, take, drop, get_or, take-append-drop, length-append, length-take, length-drop}
 use lib.Seq.{take_all, take_at, drop_at, drop-drop}
 use lib.Ieee.{to_bits, binary32}
+use Rattle.std.specs.Int.{from_bool}
 use Rattle.model.specs.Types as model
 use Rattle.text.specs.Put.{PutAs}
 use Rattle.lists.specs.Parts.{flat-more}
@@ -60,6 +61,11 @@ puts_none old at = record {
       let z : at + 0 ≡ at = omega arith in
       (sym (take-append-drop at old) ∙ ap (λ (k : ℕ). take at old ++ drop k old) (sym z), sym z);
 }
+
+-- what the library makes of a flag
+pub flag : (b : Bool) (n : ℕ) → n ≡ from_bool b → n ≡ one_if b
+flag true n e = e
+flag false n e = e
 
 -- ---- the rows of a table
 

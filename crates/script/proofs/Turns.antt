@@ -10,7 +10,6 @@ use lib.ListN.{length}
 use Rattle.lists.specs.Choose.{cond-true}
 use Rattle.design.specs.declared.InstrumentDesign.{InstrumentDesign}
 use Rattle.outcome.specs.declared.Refusal.{Refusal}
-use Rattle.outcome.specs.Numbers.{number_of}
 use Rattle.design.specs.Accepted.{design_reply}
 use Rattle.forms.specs.declared.DesignForm.{DesignForm}
 use Rattle.forms.specs.declared.OnForm.{OnForm}
@@ -26,7 +25,7 @@ use Rattle.instrument.specs.Calls.{Called, reply_of, CallAs, StartAs}
 use Rattle.instrument.proofs.Parts.{accepted-yes}
 use Rattle.instrument.specs.declared.Instrument.{Instrument}
 use Rattle.script.specs.declared.Said.{Said}
-use Rattle.script.specs.Answers.{unread_text, ready_text, start_text, reply_text, table_text}
+use Rattle.script.specs.Answers.{unread_text, start_text, reply_text, table_text}
 use Rattle.script.specs.Lines.{Printed, call_of, Stays, DesignDoes, OnDoes, VoicesDoes, Does, LineAs}
 
 not-both : {n : Refusal} {A : Type 0} (x : Result (Unit {0}) Refusal) → x ≡ Ok tt → x ≡ Err n → A

@@ -3,9 +3,8 @@
 #![tactic(auto)]
 
 ghost use Rattle.std.specs.Prelude.{◌≡◌, ◌+◌, ◌≤◌, length, Ok};
-ghost use Rattle.lists.specs.Count.{one_if};
 ghost use Rattle.voice.specs.View.{shown};
-ghost use Rattle.table.specs.View.{seen_first, voices_of};
+ghost use Rattle.table.specs.View.{voices_in};
 ghost use Rattle.instrument.specs.Calls.{reply_of};
 ghost use Rattle.model.specs.Types.{Reply.started};
 ghost use Rattle.forms.specs.Forms.{decimal_part, word_part};
@@ -16,6 +15,7 @@ ghost use Rattle.script.specs.Lines.{Puts, call_of, NoDesign, Stays, DesignDoes,
 use forms::{DesignForm, Form, OnForm};
 use instrument::{Instrument, Reply};
 use outcome::Refusal;
+use table::Table;
 use voice::Voice;
 
 // The instrument, once a design was accepted.
@@ -26,12 +26,6 @@ pub type Session = Option<Instrument>;
 pub struct Said {
     pub session: Session,
     pub count: usize,
-}
-
-fn bit(b: bool) -> u64
-    ensures { result ≡ one_if b }
-{
-    if b { 1 } else { 0 }
 }
 
 fn put_decimal(out: &mut [u8], at: usize, lead: &[u8], n: u64) -> usize
@@ -79,9 +73,9 @@ fn put_accepted(out: &mut [u8], reply: Reply) -> usize
         } => put_started(out, handle, killed.unwrap_or(0), taken.unwrap_or(0)),
         Reply::Silent(handle) => put_one(out, b"(silent ", handle),
         Reply::Kept(handle) => put_one(out, b"(kept ", handle),
-        Reply::Off(found) => put_one(out, b"(off ", bit(found)),
+        Reply::Off(found) => put_one(out, b"(off ", u64::from(found)),
         Reply::Done => text::put_literal(out, 0, b"(done)\n"),
-        Reply::Released(found) => put_one(out, b"(released ", bit(found)),
+        Reply::Released(found) => put_one(out, b"(released ", u64::from(found)),
         Reply::Planned => text::put_literal(out, 0, b"(done)\n"),
     }
 }
@@ -114,29 +108,29 @@ fn put_row(out: &mut [u8], at: usize, v: Voice) -> usize
     let note = v.note;
     let a = put_decimal(out, at, b" (", v.handle);
     let b = put_decimal(out, a, b" ", note.0 as u64);
-    let c = put_decimal(out, b, b" ", bit(v.releasing));
-    let d = put_decimal(out, c, b" ", bit(v.sustained));
+    let c = put_decimal(out, b, b" ", u64::from(v.releasing));
+    let d = put_decimal(out, c, b" ", u64::from(v.sustained));
     let e = put_word(out, d, b" ", float32::to_bits(env.level));
     text::put_literal(out, e, b")")
 }
 
-fn put_rows(vs: [Voice; 64], n: usize, out: &mut [u8]) -> usize
-    ensures puts { Puts (rows_text (voices_of (seen_first n vs))) out.old 0 out.new result }
-    ensures vs_len_bound { length (rows_text (voices_of (seen_first n vs))) ≤ 3655 }
+fn put_rows(table: Table, out: &mut [u8]) -> usize
+    ensures puts { Puts (rows_text (voices_in table)) out.old 0 out.new result }
+    ensures len_bound { length (rows_text (voices_in table)) ≤ 3655 }
 {
-    let seen = &vs[..n.min(64)];
+    let live = &table.voices[..table.count.min(64)];
     let mut next = text::put_literal(out, 0, b"(voices");
-    for v in seen {
+    for v in live {
         next = put_row(out, next, *v);
     }
     next
 }
 
-fn put_table(vs: [Voice; 64], n: usize, out: &mut [u8]) -> usize
-    ensures puts { Puts (table_text (voices_of (seen_first n vs))) out.old 0 out.new result }
-    ensures vs_len_bound { length (table_text (voices_of (seen_first n vs))) ≤ 4096 }
+fn put_table(table: Table, out: &mut [u8]) -> usize
+    ensures puts { Puts (table_text (voices_in table)) out.old 0 out.new result }
+    ensures len_bound { length (table_text (voices_in table)) ≤ 4096 }
 {
-    let next = put_rows(vs, n, out);
+    let next = put_rows(table, out);
     text::put_literal(out, next, b")\n")
 }
 
@@ -188,9 +182,7 @@ fn voices_line(s: Session, out: &mut [u8]) -> Said
     let Some(state) = s else {
         return unread(s, out);
     };
-    let table = state.table;
-    let vs = table.voices;
-    let count = put_table(vs, table.count, out);
+    let count = put_table(state.table, out);
     Said { session: s, count }
 }
 

@@ -1,5 +1,4 @@
-use native.Mathlib.Omega.{arith}
-use Rattle.script.proofs.Prints.{puts, printed}
+use Rattle.script.proofs.Prints.{printed}
 use Rattle.script.proofs.Turns.{design-second, design-refused, design-ready}
 use Rattle.script.proofs.design_line.Goals as goal
 

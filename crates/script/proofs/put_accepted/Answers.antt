@@ -1,5 +1,5 @@
 use native.Mathlib.Omega.{arith}
-use Rattle.script.proofs.Prints.{puts}
+use Rattle.script.proofs.Prints.{puts, flag}
 use Rattle.script.proofs.put_accepted.Goals as goal
 
 -- `script::put_accepted` meets its contract, reply by reply.
@@ -16,13 +16,13 @@ pub returns-in-Kept : goal.returns-in-Kept
 returns-in-Kept c = let e = c.put_one-in-Kept.ensures in rw c.in-Kept.is (record { puts = e.puts; reply_len_bound = omega (arith, e.n_in_bounds) })
 
 pub returns-in-Off : goal.returns-in-Off
-returns-in-Off c = let e = c.put_one-in-Off.ensures in rw (c.in-Off.is, ← c.bit.ensures) (record { puts = e.puts; reply_len_bound = omega (arith, e.n_in_bounds) })
+returns-in-Off c = let e = c.put_one-in-Off.ensures in rw (c.in-Off.is, ← flag _ _ c.from.ensures) (record { puts = e.puts; reply_len_bound = omega (arith, e.n_in_bounds) })
 
 pub returns-in-Done : goal.returns-in-Done
 returns-in-Done c = rw c.in-Done.is (record { puts = puts _ _ _ _ _ c.put_literal.ensures; reply_len_bound = omega arith })
 
 pub returns-in-Released : goal.returns-in-Released
-returns-in-Released c = let e = c.put_one-in-Released.ensures in rw (c.in-Released.is, ← c.bit-in-Released.ensures) (record { puts = e.puts; reply_len_bound = omega (arith, e.n_in_bounds) })
+returns-in-Released c = let e = c.put_one-in-Released.ensures in rw (c.in-Released.is, ← flag _ _ c.from-in-Released.ensures) (record { puts = e.puts; reply_len_bound = omega (arith, e.n_in_bounds) })
 
 pub returns-in-Planned : goal.returns-in-Planned
 returns-in-Planned c = rw c.in-Planned.is (record { puts = puts _ _ _ _ _ c.put_literal-in-Planned.ensures; reply_len_bound = omega arith })

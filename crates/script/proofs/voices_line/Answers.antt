@@ -10,4 +10,4 @@ returns-in_default c = voices-first c.args.s _ _ _ c.unread.ensures c.in_default
 pub returns : goal.returns
 returns c =
     voices-table c.args.s _ _ _ _ c.in-Some.is
-    (printed _ _ _ _ c.put_table-count.ensures.puts c.put_table-count.ensures.vs_len_bound c.requires)
+    (printed _ _ _ _ c.put_table-count.ensures.puts c.put_table-count.ensures.len_bound c.requires)
