@@ -55,6 +55,10 @@ module _ (t u old mid new : List ℕ) (at n m : ℕ) where
         );
   }
 
+-- as the text crate puts them
+pub puts_both : (t u old mid new : List ℕ) (at n m : ℕ) → PutAs t old at mid n → PutAs u mid n new m → Puts (t ++ u) old at new m
+puts_both t u old mid new at n m p q = puts_then t u old mid new at n m (puts t old at mid n p) (puts u mid n new m q)
+
 pub puts_none : (old : List ℕ) (at : ℕ) → Puts [] old at old at
 puts_none old at = record {
   room = λ h.
@@ -134,12 +138,12 @@ word-length n = glyphs-length 8 n
 pub part_length : (lead : List ℕ) (n : ℕ) → n < 0x1_0000_0000_0000_0000 → length (decimal_part lead n) ≤ length lead + 20
 part_length lead n h = let d = decimal-length n h in let l = length-append lead (decimal_text n) in omega arith
 
-pub one-length : (word : List ℕ) (n : ℕ) → length (decimal_part word n) ≤ length word + 20 → length (one_text word n) ≤ length word + 22
-one-length word n h = let l = length-append (decimal_part word n) close_line in omega arith
+pub one_length : (word : List ℕ) (n : ℕ) → length (decimal_part word n) ≤ length word + 20 → length (one_text word n) ≤ length word + 22
+one_length word n h = let l = length-append (decimal_part word n) close_line in omega arith
 
-pub started-length : (a b c : ℕ) → length (decimal_part started_word a) ≤ 29 → length (decimal_part space b) ≤ 21 → length (decimal_part space c) ≤ 21
+pub started_length : (a b c : ℕ) → length (decimal_part started_word a) ≤ 29 → length (decimal_part space b) ≤ 21 → length (decimal_part space c) ≤ 21
     → length (decimal_part started_word a ++ (decimal_part space b ++ (decimal_part space c ++ close_line))) ≤ 73
-started-length a b c h k l =
+started_length a b c h k l =
     let x = length-append (decimal_part space c) close_line in
     let y = length-append (decimal_part space b) (decimal_part space c ++ close_line) in
     let z = length-append (decimal_part started_word a) (decimal_part space b ++ (decimal_part space c ++ close_line)) in
@@ -180,8 +184,8 @@ rows-length-done vs n m i s e h g p =
     length-append voices_word (flat_map row_text (voices_of (seen_first n vs))) in
     omega arith
 
-pub table-length : (vs : List model.Voice) → length (rows_text vs) ≤ 3655 → length (table_text vs) ≤ 4096
-table-length vs h = let l = length-append (rows_text vs) close_line in omega arith
+pub table_length : (vs : List model.Voice) → length (rows_text vs) ≤ 3655 → length (table_text vs) ≤ 4096
+table_length vs h = let l = length-append (rows_text vs) close_line in omega arith
 
 -- a whole answer
 pub printed : (text old new : List ℕ) (count : ℕ) → Puts text old 0 new count → length text ≤ 4096 → 4096 ≤ length old → Printed text old new count

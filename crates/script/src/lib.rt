@@ -28,6 +28,7 @@ pub struct Said {
     pub count: usize,
 }
 
+#[tactic(auto, using(crate::proofs::Prints::puts_both, crate::proofs::Prints::part_length))]
 fn put_decimal(out: &mut [u8], at: usize, lead: &[u8], n: u64) -> usize
     ensures puts { Puts (decimal_part lead.now n) out.old at out.new result }
     ensures n_in_bounds { length (decimal_part lead.now n) ≤ length lead.now + 20 }
@@ -36,6 +37,7 @@ fn put_decimal(out: &mut [u8], at: usize, lead: &[u8], n: u64) -> usize
     text::put_decimal(out, next, n)
 }
 
+#[tactic(auto, using(crate::proofs::Prints::puts_both))]
 fn put_word(out: &mut [u8], at: usize, lead: &[u8], n: u32) -> usize
     ensures { Puts (word_part lead.now n) out.old at out.new result }
 {
@@ -43,6 +45,7 @@ fn put_word(out: &mut [u8], at: usize, lead: &[u8], n: u32) -> usize
     text::put_word(out, next, n)
 }
 
+#[tactic(auto, using(crate::proofs::Prints::puts, crate::proofs::Prints::puts_then, crate::proofs::Prints::one_length))]
 fn put_one(out: &mut [u8], word: &[u8], n: u64) -> usize
     ensures puts { Puts (one_text word.now n) out.old 0 out.new result }
     ensures n_in_bounds { length (one_text word.now n) ≤ length word.now + 22 }
@@ -61,6 +64,7 @@ fn put_started(out: &mut [u8], handle: u64, killed: u64, taken: u64) -> usize
     text::put_literal(out, c, b")\n")
 }
 
+#[tactic(auto, using(crate::proofs::Prints::puts, crate::proofs::Prints::flag))]
 fn put_accepted(out: &mut [u8], reply: Reply) -> usize
     ensures puts { Puts (reply_text (reply_of (Ok reply))) out.old 0 out.new result }
     ensures reply_len_bound { length (reply_text (reply_of (Ok reply))) ≤ 4096 }
@@ -134,6 +138,7 @@ fn put_table(table: Table, out: &mut [u8]) -> usize
     text::put_literal(out, next, b")\n")
 }
 
+#[tactic(auto, using(crate::proofs::Prints::puts, crate::proofs::Prints::printed))]
 fn unread(s: Session, out: &mut [u8]) -> Said
     requires { 4096 ≤ length out.old }
     ensures { Stays s unread_text out.old out.new result }
@@ -142,6 +147,7 @@ fn unread(s: Session, out: &mut [u8]) -> Said
     Said { session: s, count }
 }
 
+#[tactic(auto, using(crate::proofs::Prints::printed, crate::proofs::Turns::design_second, crate::proofs::Turns::design_refused, crate::proofs::Turns::design_ready))]
 fn design_line(s: Session, f: DesignForm, out: &mut [u8]) -> Said
     requires { 4096 ≤ length out.old }
     ensures { DesignDoes s (design_of f) out.old out.new result }
@@ -160,6 +166,7 @@ fn design_line(s: Session, f: DesignForm, out: &mut [u8]) -> Said
     }
 }
 
+#[tactic(auto, using(crate::proofs::Prints::printed, crate::proofs::Turns::on_first, crate::proofs::Turns::on_calls))]
 fn on_line(s: Session, f: OnForm, out: &mut [u8]) -> Said
     requires { 4096 ≤ length out.old }
     ensures { OnDoes s (call_of f) out.old out.new result }
@@ -175,6 +182,7 @@ fn on_line(s: Session, f: OnForm, out: &mut [u8]) -> Said
     }
 }
 
+#[tactic(auto, using(crate::proofs::Prints::printed, crate::proofs::Turns::voices_first, crate::proofs::Turns::voices_table))]
 fn voices_line(s: Session, out: &mut [u8]) -> Said
     requires { 4096 ≤ length out.old }
     ensures { VoicesDoes s out.old out.new result }
@@ -194,6 +202,7 @@ pub fn start() -> Session
 }
 
 // Answers one line, without its line feed, into a buffer of at least 4,096 bytes.
+#[tactic(auto, using(crate::proofs::Turns::line_small, crate::proofs::Turns::line_does))]
 pub fn line(s: Session, line: &[u8], out: &mut [u8]) -> Said
     ensures { LineAs s line.now out.old out.new result }
 {
