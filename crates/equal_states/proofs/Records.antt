@@ -6,11 +6,8 @@ use Prim.Native.Nat.{ℕ}
 use lib.ListN.{take}
 use Rattle.model.specs.Types as model
 use Rattle.voice.specs.View.{Seen, seen, shown}
-use Rattle.table.specs.View.{seen_first, seen_in, voices_of}
-use Rattle.table.specs.declared.Table.{Table}
+use Rattle.table.specs.View.{voices_of}
 use Rattle.voice.specs.declared.Voice.{Voice}
-use Rattle.held.specs.View.{held_first, held_in}
-use Rattle.held.specs.declared.Held.{Held}
 use Rattle.instrument.specs.View.{view}
 use Rattle.instrument.specs.declared.Instrument.{Instrument}
 use Rattle.equal_states.specs.Same.{table_shown, held_shown, SameScales, Same}
@@ -57,22 +54,6 @@ module _ (a b : Voice) where
       let gain = ap (λ (x : model.Voice). x.gain) v in
       let releasing = ap (λ (x : model.Voice). x.releasing) v in
       ((((built, ap (λ (x : model.Voice). x.env) v), gain), releasing), ap (λ (x : model.Voice). x.sustained) v))
-
--- the voices are compared up to the first table's count
-module _ (a b : Table) where
-  revoice : a.count ≡ b.count → seen_first a.count b.voices ≡ seen_in b
-  revoice = ap (λ (n : ℕ). seen_first n b.voices)
-
-  pub table-parts : {r : Bool} → Decides r ((a.count ≡ b.count) × (seen_in a ≡ seen_first a.count b.voices)) → Decides r (table_shown a ≡ table_shown b)
-  table-parts = means (λ p i. (p.0 i, (p.1 ∙ revoice p.0) i)) (λ q. let n = ap (λ (x : ℕ × List Seen). x.0) q in (n, ap (λ (x : ℕ × List Seen). x.1) q ∙ sym (revoice n)))
-
--- and so are the held notes
-module _ (a b : Held) where
-  reheld : a.count ≡ b.count → held_first a.count b.notes ≡ held_in b
-  reheld = ap (λ (n : ℕ). held_first n b.notes)
-
-  pub held-parts : {r : Bool} → Decides r ((a.count ≡ b.count) × (held_in a ≡ held_first a.count b.notes)) → Decides r (held_shown a ≡ held_shown b)
-  held-parts = means (λ p i. (p.0 i, (p.1 ∙ reheld p.0) i)) (λ q. let n = ap (λ (x : ℕ × List ℕ). x.0) q in (n, ap (λ (x : ℕ × List ℕ). x.1) q ∙ sym (reheld n)))
 
 module _ (a b : Instrument) where
   abbrev Numbers : Type 0
