@@ -1,16 +1,15 @@
 -- Whole lines: the parts as forms, and one law for each way out of the reader of a line.
 use mathlib.Core.Path.{◌≡◌, refl, ap, sym, ◌∙◌}
 use mathlib.Core.Bool.{Bool, true, false}
-use mathlib.Core.List.{List, ◌∷◌, ◌++◌, append-nil}
+use mathlib.Core.List.{List, ◌∷◌, ◌++◌}
 use Prim.Native.Nat.{ℕ, zero, suc, ◌≤◌, ◌<◌}
 use native.Mathlib.Omega.{arith}
 use lib.Dec.{eqb}
-use lib.ListN.{length, drop_of_length-le}
+use lib.ListN.{length}
 use Rattle.std.proofs.Common.{Some, None}
 use Rattle.lists.specs.Count.{one_if}
 use Rattle.lists.specs.Parts.{head-same, tail-same}
 use Rattle.design.specs.declared.PlayMode.{PlayMode}
-use Rattle.text.specs.Read.{Stands}
 use Rattle.forms.specs.declared.AmpForm.{AmpForm}
 use Rattle.forms.specs.declared.ModulationForm.{ModulationForm}
 use Rattle.forms.specs.declared.DesignForm.{DesignForm}
@@ -19,7 +18,7 @@ use Rattle.forms.specs.declared.Form.{Form}
 use Rattle.forms.specs.declared.Form.TheVariants.{Design, On, Voices}
 use Rattle.forms.specs.Forms.{Below32, open_design, then_max, then_mode, then_unison, then_amp, then_glide, then_mod, close_design, space, open_on, close, voices, decimal_part, mode_part, word_part, amp_text, modulation_text, design_text, on_text, AmpFits, ModulationFits, DesignFits, OnFits, Says, FormAs}
 use Rattle.forms.specs.Parts.{AnyMode, DesignAs, OnAs}
-use Rattle.forms.proofs.Chains.{SameText, from-start, not-ended}
+use Rattle.forms.proofs.Chains.{SameText}
 
 abbrev pub AmpParts : Type 0
 AmpParts = ℕ × (ℕ × (ℕ × ℕ))
@@ -178,29 +177,10 @@ module _ (l : List ℕ) (h : length l ≤ 256) where
       same (On f) s = clash 100 111 _ _ l (λ z. omega arith) (p.yes d refl).1 s.2
       same Voices s = clash 100 118 _ _ l (λ z. omega arith) (p.yes d refl).1 s.1
 
-  pub is-on : (o : OnForm) → OnAs l (Some o) → FormAs l (Some (On o))
-  is-on o p = let y = p.yes o refl in form-some l (On o) (h, y.0, y.1) same
-    where
-      same : (f : Form) → Says l f → On o ≡ f
-      same (Design f) s = clash 111 100 _ _ l (λ z. omega arith) (p.yes o refl).1 s.2
-      same (On f) s = let e = p.only f s.1 s.2 in cc
-      same Voices s = clash 111 118 _ _ l (λ z. omega arith) (p.yes o refl).1 s.1
-
-  pub is-voices : Stands voices l 0 (length l) → FormAs l (Some Voices)
-  is-voices t = form-some l Voices (h, e) same
-    where
-      e : l ≡ voices
-      e = t.whole ∙ ap (λ (rest : List ℕ). voices ++ rest) (drop_of_length-le l {i = length l} (omega arith)) ∙ append-nil voices
-
-      same : (f : Form) → Says l f → Voices ≡ f
-      same (Design f) s = clash 118 100 _ _ l (λ z. omega arith) e s.2
-      same (On f) s = clash 118 111 _ _ l (λ z. omega arith) e s.2
-      same Voices s = refl
-
-  pub is_none : DesignAs l None → OnAs l None → (Stands voices l 0 (length l) → false ≡ true) → FormAs l None
+  pub is_none : DesignAs l None → OnAs l None → (l ≡ voices → ⊥) → FormAs l None
   is_none p q v = record { says = λ f e. let z : ⊥ = cc in absurd z; only = none }
     where
       none : (f : Form) → Says l f → None ≡ Some f
       none (Design f) s = let e = p.only f s.1 s.2 in let z : ⊥ = cc in absurd z
       none (On f) s = let e = q.only f s.1 s.2 in let z : ⊥ = cc in absurd z
-      none Voices s = absurd (not-ended voices l 0 v (from-start l voices s.1))
+      none Voices s = absurd (v s.1)

@@ -9,23 +9,23 @@ use Rattle.forms.specs.declared.DesignForm.{DesignForm}
 use Rattle.forms.specs.declared.OnForm.{OnForm}
 use Rattle.forms.specs.Forms.{then_mode, decimal_part, mode_part, word_part, amp_text, modulation_text, design_text, on_text, Below32, AmpFits, ModulationFits, DesignFits, OnFits}
 
-abbrev pub LedDecimal : List ℕ → ℕ → List ℕ → ℕ → Option (ℕ × ℕ) → Type 0
+abbrev pub LedDecimal : List ℕ → ℕ → List ℕ → Option (ℕ × List ℕ) → Type 0
 LedDecimal lead most = ReadAs (decimal_part lead) (λ v. v ≤ most) NoDigit
 
-abbrev pub LedWord : List ℕ → List ℕ → ℕ → Option (ℕ × ℕ) → Type 0
+abbrev pub LedWord : List ℕ → List ℕ → Option (ℕ × List ℕ) → Type 0
 LedWord lead = ReadAs (word_part lead) Below32 Any
 
 -- every mode may be
 abbrev pub AnyMode : PlayMode → Type 0
 AnyMode m = Unit
 
-abbrev pub ModeAs : List ℕ → ℕ → Option (PlayMode × ℕ) → Type 0
+abbrev pub ModeAs : List ℕ → Option (PlayMode × List ℕ) → Type 0
 ModeAs = ReadAs (mode_part then_mode) AnyMode Any
 
-abbrev pub AmpAs : List ℕ → ℕ → Option (AmpForm × ℕ) → Type 0
+abbrev pub AmpAs : List ℕ → Option (AmpForm × List ℕ) → Type 0
 AmpAs = ReadAs amp_text AmpFits Any
 
-abbrev pub ModulationAs : List ℕ → ℕ → Option (ModulationForm × ℕ) → Type 0
+abbrev pub ModulationAs : List ℕ → Option (ModulationForm × List ℕ) → Type 0
 ModulationAs = ReadAs modulation_text ModulationFits Any
 
 -- a whole line of one kind: the form whose text it is

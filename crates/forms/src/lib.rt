@@ -1,9 +1,9 @@
-// The forms of the script program, read from a line. A reader of a part gives the place behind the part too.
+// The forms of the script program, read from a line. A reader of a part gives what is behind the part too.
 
 #![tactic(auto)]
 
-ghost use Rattle.std.specs.Prelude.{◌≡◌, ◌↔◌, IsTrue, length};
-ghost use Rattle.text.specs.Read.{Stands};
+ghost use Rattle.std.specs.Prelude.{◌≡◌};
+ghost use Rattle.text.specs.Read.{seen};
 ghost use Rattle.forms.specs.Forms.{FormAs};
 ghost use Rattle.forms.specs.Named.{amp_of, modulation_of, design_of};
 ghost use Rattle.forms.specs.Parts.{LedDecimal, LedWord, ModeAs, AmpAs, ModulationAs, DesignAs, OnAs};
@@ -102,60 +102,58 @@ pub enum Form {
     Voices,
 }
 
-fn led_decimal(line: &[u8], at: usize, lead: &[u8], most: u64) -> Option<(u64, usize)>
-    ensures { LedDecimal lead.now most line.now at result }
+fn led_decimal<'a>(line: &'a [u8], lead: &[u8], most: u64) -> Option<(u64, &'a [u8])>
+    ensures { LedDecimal lead.now most line.now (seen result) }
 {
-    let at = text::literal(line, at, lead)?;
-    text::decimal(line, at, most)
+    text::decimal(line.strip_prefix(lead)?, most)
 }
 
-fn led_number(line: &[u8], at: usize, lead: &[u8]) -> Option<(u32, usize)>
-    ensures { LedDecimal lead.now u32.MAX line.now at result }
+fn led_number<'a>(line: &'a [u8], lead: &[u8]) -> Option<(u32, &'a [u8])>
+    ensures { LedDecimal lead.now u32.MAX line.now (seen result) }
 {
-    let (n, next) = led_decimal(line, at, lead, u32::MAX as u64)?;
-    Some((n as u32, next))
+    let (n, rest) = led_decimal(line, lead, u32::MAX as u64)?;
+    Some((n as u32, rest))
 }
 
-fn led_word(line: &[u8], at: usize, lead: &[u8]) -> Option<(u32, usize)>
-    ensures { LedWord lead.now line.now at result }
+fn led_word<'a>(line: &'a [u8], lead: &[u8]) -> Option<(u32, &'a [u8])>
+    ensures { LedWord lead.now line.now (seen result) }
 {
-    let at = text::literal(line, at, lead)?;
-    text::word(line, at)
+    text::word(line.strip_prefix(lead)?)
 }
 
-fn mode(line: &[u8], at: usize) -> Option<(PlayMode, usize)>
-    ensures { ModeAs line.now at result }
+fn mode(line: &[u8]) -> Option<(PlayMode, &[u8])>
+    ensures { ModeAs line.now (seen result) }
 {
-    let at = text::literal(line, at, b") (mode ")?;
-    if let Some(next) = text::literal(line, at, b"poly") {
-        return Some((PlayMode::Poly, next));
+    let word = line.strip_prefix(b") (mode ")?;
+    if let Some(rest) = word.strip_prefix(b"poly") {
+        return Some((PlayMode::Poly, rest));
     }
-    if let Some(next) = text::literal(line, at, b"mono") {
-        return Some((PlayMode::Mono { legato: false }, next));
+    if let Some(rest) = word.strip_prefix(b"mono") {
+        return Some((PlayMode::Mono { legato: false }, rest));
     }
-    let next = text::literal(line, at, b"legato")?;
-    Some((PlayMode::Mono { legato: true }, next))
+    let rest = word.strip_prefix(b"legato")?;
+    Some((PlayMode::Mono { legato: true }, rest))
 }
 
-fn amp(line: &[u8], at: usize) -> Option<(AmpForm, usize)>
-    ensures { AmpAs line.now at result }
+fn amp(line: &[u8]) -> Option<(AmpForm, &[u8])>
+    ensures { AmpAs line.now (seen result) }
 {
-    let (a, at) = led_word(line, at, b") (amp ")?;
-    let (d, at) = led_word(line, at, b" ")?;
-    let (s, at) = led_word(line, at, b" ")?;
-    let (r, at) = led_word(line, at, b" ")?;
-    Some((AmpForm { a, d, s, r }, at))
+    let (a, rest) = led_word(line, b") (amp ")?;
+    let (d, rest) = led_word(rest, b" ")?;
+    let (s, rest) = led_word(rest, b" ")?;
+    let (r, rest) = led_word(rest, b" ")?;
+    Some((AmpForm { a, d, s, r }, rest))
 }
 
-fn modulation(line: &[u8], at: usize) -> Option<(ModulationForm, usize)>
-    ensures { ModulationAs line.now at result }
+fn modulation(line: &[u8]) -> Option<(ModulationForm, &[u8])>
+    ensures { ModulationAs line.now (seen result) }
 {
-    let (vibrato_rate, at) = led_word(line, at, b") (mod ")?;
-    let (vibrato_cents, at) = led_word(line, at, b" ")?;
-    let (tremolo_rate, at) = led_word(line, at, b" ")?;
-    let (tremolo_depth, at) = led_word(line, at, b" ")?;
-    let (filter_rate, at) = led_word(line, at, b" ")?;
-    let (filter_octaves, at) = led_word(line, at, b" ")?;
+    let (vibrato_rate, rest) = led_word(line, b") (mod ")?;
+    let (vibrato_cents, rest) = led_word(rest, b" ")?;
+    let (tremolo_rate, rest) = led_word(rest, b" ")?;
+    let (tremolo_depth, rest) = led_word(rest, b" ")?;
+    let (filter_rate, rest) = led_word(rest, b" ")?;
+    let (filter_octaves, rest) = led_word(rest, b" ")?;
     let form = ModulationForm {
         vibrato_rate,
         vibrato_cents,
@@ -164,26 +162,16 @@ fn modulation(line: &[u8], at: usize) -> Option<(ModulationForm, usize)>
         filter_rate,
         filter_octaves,
     };
-    Some((form, at))
-}
-
-// Whether the words stand there and end the line.
-fn ends(line: &[u8], at: usize, words: &[u8]) -> bool
-    ensures { IsTrue result ↔ Stands words.now line.now at (length line.now) }
-{
-    match text::literal(line, at, words) {
-        Some(next) => next == line.len(),
-        None => false,
-    }
+    Some((form, rest))
 }
 
 fn on_line(line: &[u8]) -> Option<OnForm>
     ensures { OnAs line.now result }
 {
-    let (note, at) = led_decimal(line, 0, b"(on ", 255)?;
-    let (velocity, at) = led_word(line, at, b" ")?;
-    let (built, at) = led_decimal(line, at, b" ", 1)?;
-    if !ends(line, at, b")") {
+    let (note, rest) = led_decimal(line, b"(on ", 255)?;
+    let (velocity, rest) = led_word(rest, b" ")?;
+    let (built, rest) = led_decimal(rest, b" ", 1)?;
+    if rest != b")".as_slice() {
         return None;
     }
     Some(OnForm {
@@ -196,15 +184,15 @@ fn on_line(line: &[u8]) -> Option<OnForm>
 fn design_line(line: &[u8]) -> Option<DesignForm>
     ensures { DesignAs line.now result }
 {
-    let (rate, at) = led_number(line, 0, b"(design (rate ")?;
-    let (max, at) = led_number(line, at, b") (max ")?;
-    let (mode, at) = mode(line, at)?;
-    let (unison, at) = led_number(line, at, b") (unison ")?;
-    let (width, at) = led_word(line, at, b" ")?;
-    let (amp, at) = amp(line, at)?;
-    let (glide, at) = led_word(line, at, b") (glide ")?;
-    let (modulation, at) = modulation(line, at)?;
-    if !ends(line, at, b"))") {
+    let (rate, rest) = led_number(line, b"(design (rate ")?;
+    let (max, rest) = led_number(rest, b") (max ")?;
+    let (mode, rest) = mode(rest)?;
+    let (unison, rest) = led_number(rest, b") (unison ")?;
+    let (width, rest) = led_word(rest, b" ")?;
+    let (amp, rest) = amp(rest)?;
+    let (glide, rest) = led_word(rest, b") (glide ")?;
+    let (modulation, rest) = modulation(rest)?;
+    if rest != b"))".as_slice() {
         return None;
     }
     Some(DesignForm {
@@ -232,7 +220,7 @@ pub fn read(line: &[u8]) -> Option<Form>
     if let Some(form) = on_line(line) {
         return Some(Form::On(form));
     }
-    if ends(line, 0, b"(voices)") {
+    if line == b"(voices)".as_slice() {
         return Some(Form::Voices);
     }
     None

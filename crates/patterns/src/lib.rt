@@ -19,58 +19,33 @@ fn most(letter: u8) -> u64 {
     }
 }
 
-// Two capital hexadecimal digits, read as the last of a word.
-pub fn pair(line: &[u8], at: usize) -> Option<(u64, usize)> {
-    if line.len() <= at {
-        return None;
-    }
-    if line.len() - at < 2 {
-        return None;
-    }
-    let digits = [b'0', b'0', b'0', b'0', b'0', b'0', line[at], line[at + 1]];
-    let (value, _) = text::word(&digits, 0)?;
-    Some((u64::from(value), at + 2))
-}
-
-// How many pairs of digits, of at most 100.
-fn pairs(line: &[u8], at: usize) -> (u64, usize) {
-    let mut next = at;
+// How many pairs of digits the text begins with, of at most 100, and what is behind them.
+fn pairs(line: &[u8]) -> (u64, &[u8]) {
+    let mut rest = line;
     for count in 0..100 {
-        let Some((_, behind)) = pair(line, next) else {
-            return (count, next);
+        let Some((_, behind)) = text::byte(rest) else {
+            return (count, rest);
         };
-        next = behind;
+        rest = behind;
     }
-    (100, next)
+    (100, rest)
 }
 
 // How many pairs a stream has: a dash stands for none.
-fn stream(line: &[u8], at: usize) -> Option<(u64, usize)> {
-    match pairs(line, at) {
-        (0, _) => {
-            let next = same(line, at, b'-')?;
-            Some((0, next))
-        }
+fn stream(line: &[u8]) -> Option<(u64, &[u8])> {
+    match pairs(line) {
+        (0, _) => Some((0, line.strip_prefix(b"-")?)),
         some => Some(some),
     }
 }
 
-// The place behind a byte of the pattern.
-fn same(line: &[u8], at: usize, wanted: u8) -> Option<usize> {
-    if at < line.len() && line[at] == wanted {
-        Some(at + 1)
-    } else {
-        None
-    }
-}
-
 // `W` is a word, `B` a byte in two digits, `S` a stream, and any other letter a decimal.
-fn number(line: &[u8], at: usize, letter: u8) -> Option<(u64, usize)> {
+fn number(line: &[u8], letter: u8) -> Option<(u64, &[u8])> {
     match letter {
-        b'W' => text::word(line, at).map(|(word, next)| (u64::from(word), next)),
-        b'B' => pair(line, at),
-        b'S' => stream(line, at),
-        _ => text::decimal(line, at, most(letter)),
+        b'W' => text::word(line).map(|(word, rest)| (u64::from(word), rest)),
+        b'B' => text::byte(line).map(|(byte, rest)| (u64::from(byte), rest)),
+        b'S' => stream(line),
+        _ => text::decimal(line, most(letter)),
     }
 }
 
@@ -78,20 +53,20 @@ fn number(line: &[u8], at: usize, letter: u8) -> Option<(u64, usize)> {
 pub fn fits<const N: usize>(line: &[u8], pattern: &[u8]) -> Option<[u64; N]> {
     let mut values = [0; N];
     let mut count = 0;
-    let mut at = 0;
+    let mut rest = line;
     for p in pattern {
         if !p.is_ascii_uppercase() {
-            at = same(line, at, *p)?;
+            rest = rest.strip_prefix(&[*p])?;
             continue;
         }
-        let (value, next) = number(line, at, *p)?;
-        at = next;
+        let (value, behind) = number(rest, *p)?;
+        rest = behind;
         if count < N {
             values[count] = value;
             count += 1;
         }
     }
-    if at == line.len() { Some(values) } else { None }
+    if rest.is_empty() { Some(values) } else { None }
 }
 
 // The number of a line that is the pattern, which has one letter.
@@ -100,7 +75,8 @@ pub fn fits_one(line: &[u8], pattern: &[u8]) -> Option<u64> {
     Some(n)
 }
 
-// Numbers of a form at their width. The rest takes nothing away: the letter asked for the bound.
+// Numbers of a form at their width. The letter asked for the bound, so the mask takes nothing away; without it no cast is
+// proved to keep the number.
 
 pub fn byte_of(n: u64) -> u8 {
     (n & 0xFF) as u8

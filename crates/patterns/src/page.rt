@@ -34,7 +34,7 @@ impl<'a> Page<'a> {
     fn byte(&mut self, n: u32) {
         let mut digits = [b'0'; 8];
         text::put_word(&mut digits, 0, n);
-        self.literal(&[digits[6], digits[7]]);
+        self.literal(&digits[6..]);
     }
 
     // A number as the letter says: `W` 8 digits, `B` two, `X` 16, and any other letter a decimal.

@@ -2,7 +2,7 @@
 
 use crate::said;
 use midi::Cursor;
-use patterns::{Page, byte_of, pair};
+use patterns::Page;
 
 #[tactic(auto, using(midi::proofs::Whole::inside, midi::proofs::Whole::shrinks))]
 fn walk(page: &mut Page, stream: &[u8], from: Cursor) {
@@ -14,16 +14,16 @@ fn walk(page: &mut Page, stream: &[u8], from: Cursor) {
     }
 }
 
-// The bytes of a stream from `from` on, as many as there are.
-fn bytes(line: &[u8], from: usize) -> [u8; 100] {
+// The bytes that a text begins with, as many as there are.
+fn bytes(line: &[u8]) -> [u8; 100] {
     let mut stream = [0; 100];
-    let mut next = from;
-    for byte in &mut stream {
-        let Some((value, behind)) = pair(line, next) else {
+    let mut rest = line;
+    for place in &mut stream {
+        let Some((byte, behind)) = text::byte(rest) else {
             break;
         };
-        *byte = byte_of(value);
-        next = behind;
+        *place = byte;
+        rest = behind;
     }
     stream
 }
@@ -33,6 +33,6 @@ pub fn steps(page: &mut Page, line: &[u8], from: Cursor, count: usize) {
     if 100 < count || line.len() <= 2 * count {
         return;
     }
-    let stream = bytes(line, line.len() - 2 * count - 1);
+    let stream = bytes(&line[line.len() - 2 * count - 1..]);
     walk(page, &stream[..count], from);
 }

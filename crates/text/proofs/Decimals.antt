@@ -1,20 +1,27 @@
--- Decimals: their texts, and one law for each way that the reader goes on or ends.
+-- Decimals: their texts, the digits that a line begins with, and one law for each way out of the reader.
 use mathlib.Core.Path.{◌≡◌, refl, ap, sym, ◌∙◌}
 use mathlib.Core.Bool.{Bool, true, false}
-use mathlib.Core.List.{List, [], ◌∷◌, ◌++◌, append_assoc}
-use Prim.Native.Nat.{ℕ, zero, suc, ◌+◌, ◌-◌, ◌*◌, ◌/◌, ◌%◌, ◌≤◌, ◌<◌}
+use mathlib.Core.List.{List, [], ◌∷◌, ◌++◌, append_assoc, append-nil}
+use Prim.Native.Nat.{ℕ, zero, suc, ◌+◌, ◌-◌, ◌*◌, ◌/◌, ◌%◌, ◌^◌, ◌≤◌, ◌<◌}
 use native.Mathlib.Omega.{arith}
 use lib.Dec.{ltb}
-use borrow.Author.Tests.{ltb-true, ltb-false, lt-ltb, le-ltb}
-use lib.ListN.{length, drop, length-append, length-drop}
-use lib.Seq.{drop-drop}
-use Rattle.lists.specs.Prefix.{fold, fold-snoc}
+use borrow.Author.Tests.{ltb-true, ltb-false, lt-ltb, le-ltb, ne_eqb}
+use lib.ListN.{length, get_or, take, drop, length-append, take-append-drop}
+use Rattle.std.specs.Char.{digit_value, is_ascii_digit}
+use Rattle.std.specs.List.{prefix_len}
+use Rattle.std.specs.Str.Parse.{ParsesUnsigned, AllDigits, IsNumeral, digits_value, digits_value_after, without_leading_plus}
+use Rattle.std.proofs.Common.{Result, Ok, Err, Some, None}
+use Rattle.std.specs.Prelude.{MatchResult}
+use Rattle.std.specs.Result.{result_ok}
+use Rattle.std.specs.Str.{IsUtf8}
+use Rattle.std.proofs.lemmas.Str.{digit_value_digit, IsUtf8-from_ascii}
+use Rattle.std.proofs.lemmas.Fmt.{IsAscii-from_digits}
+use Rattle.std.proofs.lemmas.Int.Digits.{digits_value_push}
 use Rattle.text.specs.Text.{figure, figures, decimal_text, NoDigit}
-use Rattle.std.proofs.Common.{Some, None}
-use Rattle.text.specs.Read.{DecimalAs, Got}
-use Rattle.lists.specs.Parts.{head-same, tail-same, parts_same, front-on, no_length}
-use Rattle.text.proofs.Spelt.{Spelt, spelt-append, begun, none-empty}
-use Rattle.text.proofs.Once.{read-none, read-some}
+use Rattle.text.specs.Read.{DecimalAs}
+use Rattle.lists.specs.Parts.{head-same}
+use Rattle.text.proofs.Spelt.{Spelt, spelt-append, spelt-same, none-empty}
+use Rattle.text.proofs.Once.{some-same, read-none, read-some}
 
 -- division may be allowed more often than is needed
 enough : (j k n : ℕ) → n ≤ j → n ≤ k → figures j n ≡ figures k n
@@ -46,47 +53,26 @@ text-more v d hv hd = by (10 * v + d) refl
         let ih : figures k v ≡ figures v v = enough k v v (omega arith) (omega arith) in
         rw (le-ltb (suc k) 10 (omega arith), q, m, ih)
 
--- the number that a text of digits says
-abbrev step : ℕ → ℕ → ℕ
-step z x = 10 * z + (x - 48)
+-- a digit, as the library reads it
+digit-value : (d : ℕ) → d < 10 → digit_value (figure d) ≡ d
+digit-value d h = let e = digit_value_digit (figure d) (omega arith, omega arith) in omega arith
 
-abbrev number : ℕ → List ℕ → ℕ
-number = fold step
-
-number-snoc : (z : ℕ) (xs : List ℕ) (d : ℕ) → number z (xs ++ (figure d ∷ [])) ≡ 10 * number z xs + d
-number-snoc z xs d = fold-snoc step z xs (figure d) ∙ (omega arith)
-
--- more digits say no less
-grown : (z : ℕ) (xs : List ℕ) → z ≤ number z xs
-grown z [] = omega arith
-grown z (x ∷ xs) = let q = grown (step z x) xs in omega arith
-
-number-on : (z : ℕ) (xs ys : List ℕ) → number z xs ≤ number z (xs ++ ys)
-number-on z [] ys = grown z ys
-number-on z (x ∷ xs) ys = number-on (step z x) xs ys
-
-number-figures : (k n : ℕ) → number 0 (figures k n) ≡ n
-number-figures zero n = omega arith
-number-figures (suc k) n = by (ltb n 10) refl (number-figures k (n / 10))
+value-figures : (k n : ℕ) → n ≤ k → digits_value 10 (figures k n) ≡ n
+value-figures zero n h = let z : n ≡ 0 = omega arith in rw z refl
+value-figures (suc k) n h = by (ltb n 10) refl (value-figures k (n / 10))
   where
-    by : (b : Bool) → ltb n 10 ≡ b → number 0 (figures k (n / 10)) ≡ n / 10 → number 0 (figures (suc k) n) ≡ n
-    by true e ih = rw e (omega arith)
+    by : (b : Bool) → ltb n 10 ≡ b → (n / 10 ≤ k → digits_value 10 (figures k (n / 10)) ≡ n / 10) → digits_value 10 (figures (suc k) n) ≡ n
+    by true e ih = let v = digit-value n (ltb-true _ _ e) in rw e (omega arith)
     by false e ih =
-        let s = number-snoc 0 (figures k (n / 10)) (n % 10) in
-        rw e (s ∙ (omega arith))
+        let q : 10 ≤ n = ltb-false _ _ e in
+        let s = digits_value_push 10 (figures k (n / 10)) (figure (n % 10)) in
+        let i = ih (omega arith) in
+        let v = digit-value (n % 10) (omega arith) in
+        rw e (omega arith)
 
-pub number-text : (n : ℕ) → number 0 (decimal_text n) ≡ n
+pub value-text : (n : ℕ) → digits_value 10 (decimal_text n) ≡ n
 unfolding decimal_text
-number-text n = number-figures n n
-
--- a text that goes on says no less
-pub longer : (v w : ℕ) (more : List ℕ) → decimal_text v ≡ decimal_text w ++ more → w ≤ v
-longer v w more e =
-    let a = number-text v in
-    let b = number-text w in
-    let c = number-on 0 (decimal_text w) more in
-    let f : number 0 (decimal_text v) ≡ number 0 (decimal_text w ++ more) = ap (number 0) e in
-    omega arith
+value-text n = value-figures n n (omega arith)
 
 spelt-figures : (k n : ℕ) → n ≤ k → Spelt 10 figure (figures k n)
 spelt-figures zero n h = (record { value = n; small = omega arith; is = refl }, tt)
@@ -135,95 +121,138 @@ text-leads n rest more p e = leads n n rest more (omega arith) p e
 
 -- one text with no digit behind it is the text of one number
 pub text_same : (v w : ℕ) (rest more : List ℕ) → NoDigit rest → NoDigit more → decimal_text v ++ rest ≡ decimal_text w ++ more → (v ≡ w) × (rest ≡ more)
-text_same v w rest more f g e = by (ltb (length (decimal_text v)) (length (decimal_text w))) refl (ltb (length (decimal_text w)) (length (decimal_text v))) refl
-  where
-    by : (a : Bool) → ltb (length (decimal_text v)) (length (decimal_text w)) ≡ a → (b : Bool) → ltb (length (decimal_text w)) (length (decimal_text v)) ≡ b → (v ≡ w) × (rest ≡ more)
-    by true p b q = absurd (begun 10 figure (decimal_text w) (decimal_text v) more rest (spelt-text w) (ltb-true _ _ p) (sym e) f)
-    by false p true q = absurd (begun 10 figure (decimal_text v) (decimal_text w) rest more (spelt-text v) (ltb-true _ _ q) e g)
-    by false p false q =
-        let l : length (decimal_text w) ≤ length (decimal_text v) = ltb-false _ _ p in
-        let m : length (decimal_text v) ≤ length (decimal_text w) = ltb-false _ _ q in
-        let s = parts_same (decimal_text v) (decimal_text w) rest more (omega arith) e in
-        (sym (number-text v) ∙ ap (number 0) s.0 ∙ number-text w, s.1)
+text_same v w rest more f g e =
+    let s = spelt-same 10 figure (decimal_text v) (decimal_text w) rest more (spelt-text v) (spelt-text w) f g e in
+    (sym (value-text v) ∙ ap (digits_value 10) s.0 ∙ value-text w, s.1)
 
--- a decimal with no digit behind it is no less than what its first digits say
-text-bound : (v w : ℕ) (rest more : List ℕ) → NoDigit rest → decimal_text v ++ rest ≡ decimal_text w ++ more → w ≤ v
-text-bound v w rest more f e = by (ltb (length (decimal_text v)) (length (decimal_text w))) refl
+-- ---- digits that stand in a line
+
+-- more digits behind a number that is not 0
+text-on : (v : ℕ) (ds : List ℕ) → 1 ≤ v → Spelt 10 figure ds → decimal_text (digits_value_after 10 v ds) ≡ decimal_text v ++ ds
+text-on v [] h s = sym (append-nil (decimal_text v))
+text-on v (x ∷ xs) h s =
+    let d = s.0.value in
+    let k = s.0.small in
+    let e : v * 10 + digit_value x ≡ 10 * v + d = ap (λ (y : ℕ). v * 10 + digit_value y) s.0.is ∙ (let i = digit-value d k in omega arith) in
+    ap (λ (n : ℕ). decimal_text (digits_value_after 10 n xs)) e
+    ∙ text-on (10 * v + d) xs (omega arith) s.1
+    ∙ ap (λ (t : List ℕ). t ++ xs) (text-more v d h k)
+    ∙ append_assoc (decimal_text v) (figure d ∷ []) xs
+    ∙ ap (λ (y : ℕ). decimal_text v ++ (y ∷ xs)) (sym s.0.is)
+
+-- digits with no zero in front are the text of what they say
+pub text-of : (ds : List ℕ) → 1 ≤ length ds → Spelt 10 figure ds → (1 < length ds → get_or ds 0 0 ≡ 48 → ⊥) → decimal_text (digits_value 10 ds) ≡ ds
+text-of [] h s f = absurd (omega arith)
+text-of (x ∷ xs) h s f = by s.0.value refl xs s.1 f
   where
-    by : (a : Bool) → ltb (length (decimal_text v)) (length (decimal_text w)) ≡ a → w ≤ v
-    by true p = absurd (begun 10 figure (decimal_text w) (decimal_text v) more rest (spelt-text w) (ltb-true _ _ p) (sym e) f)
-    by false p = longer v w _ (front-on (decimal_text v) (decimal_text w) rest more (ltb-false _ _ p) e)
+    e : 0 * 10 + digit_value x ≡ s.0.value
+    e = ap (λ (y : ℕ). 0 * 10 + digit_value y) s.0.is ∙ (let i = digit-value s.0.value s.0.small in omega arith)
+
+    by : (d : ℕ) → s.0.value ≡ d → (ys : List ℕ) → Spelt 10 figure ys → (1 < length (x ∷ ys) → x ≡ 48 → ⊥) → decimal_text (digits_value 10 (x ∷ ys)) ≡ x ∷ ys
+    by zero z [] t g = ap decimal_text (e ∙ z) ∙ text-one 0 (omega arith) ∙ ap (λ (y : ℕ). y ∷ []) (sym (s.0.is ∙ ap figure z))
+    by zero z (y ∷ ys) t g = absurd (g (omega arith) (s.0.is ∙ ap figure z))
+    by (suc d) z ys t g =
+        ap (λ (n : ℕ). decimal_text (digits_value_after 10 n ys)) e
+        ∙ text-on s.0.value ys (omega arith) t
+        ∙ ap (λ (u : List ℕ). u ++ ys) (text-one s.0.value s.0.small)
+        ∙ ap (λ (y : ℕ). y ∷ ys) (sym s.0.is)
+
+spelt-digits : (ds : List ℕ) → Spelt 10 figure ds → AllDigits 10 ds
+spelt-digits [] s = tt
+spelt-digits (x ∷ xs) s =
+    let d : digit_value x < 10 = let i = digit-value s.0.value s.0.small in let e = ap digit_value s.0.is in let k = s.0.small in omega arith in
+    (d, spelt-digits xs s.1)
+
+no-plus : (ds : List ℕ) → Spelt 10 figure ds → without_leading_plus ds ≡ ds
+no-plus [] s = refl
+no-plus (x ∷ xs) s = rw (ne_eqb x 43 (λ e. let i = s.0.is in omega arith)) refl
 
 -- ---- the reader
 
-module _ (l : List ℕ) (at most : ℕ) where
-  none : ((v next : ℕ) → Got decimal_text (λ v. v ≤ most) NoDigit l at v next → ⊥) → DecimalAs most l at None
-  none = read-none decimal_text (λ v. v ≤ most) NoDigit l at
+-- the text begins with digits, and no digit is behind them
+pub record Cut (l digits rest : List ℕ) : Type 0 where
+  pub whole : l ≡ digits ++ rest
+  pub spelt : Spelt 10 figure digits
+  pub ends : NoDigit rest
 
-  -- no digit stands there
-  pub none_first : NoDigit (drop at l) → DecimalAs most l at None
-  none_first f = none (λ v next g. begun 10 figure (decimal_text v) [] (drop next l) (drop at l) (spelt-text v) (some-text v) (sym g.stands.whole) f)
+cut-here : (l : List ℕ) → Spelt 10 figure (take (prefix_len is_ascii_digit l) l) × NoDigit (drop (prefix_len is_ascii_digit l) l)
+cut-here [] = (tt, none-empty 10 figure)
+cut-here (x ∷ xs) = by (is_ascii_digit x) refl (cut-here xs)
+  where
+    by : (b : Bool) → is_ascii_digit x ≡ b → Spelt 10 figure (take (prefix_len is_ascii_digit xs) xs) × NoDigit (drop (prefix_len is_ascii_digit xs) xs)
+        → Spelt 10 figure (take (prefix_len is_ascii_digit (x ∷ xs)) (x ∷ xs)) × NoDigit (drop (prefix_len is_ascii_digit (x ∷ xs)) (x ∷ xs))
+    by true e ih =
+        let r : (48 ≤ x) × (x ≤ 57) = grind arith in
+        let a : 1 + prefix_len is_ascii_digit xs ≡ suc (prefix_len is_ascii_digit xs) = omega arith in
+        rw (e, a) ((record { value = x - 48; small = omega arith; is = omega arith }, ih.0), ih.1)
+    by false e ih = rw e (tt, λ d rest h f. let q : x ≡ figure d = head-same f in let z : is_ascii_digit x ≡ true = grind arith in let y : ⊥ = cc in y)
 
-  pub none_end : length (drop at l) ≡ 0 → DecimalAs most l at None
-  none_end e = none_first (let z : drop at l ≡ [] = no_length (drop at l) e in rw z (none-empty 10 figure))
+pub cut : (l : List ℕ) (n : ℕ) (digits rest : List ℕ) → n ≡ prefix_len is_ascii_digit l → digits ≡ take n l → rest ≡ drop n l → Cut l digits rest
+cut l n digits rest e f g =
+    let h = cut-here l in
+    rw (f, g, e) (record { whole = sym (take-append-drop (prefix_len is_ascii_digit l) l); spelt = h.0; ends = h.1 })
 
-  -- what was read so far, before `more`
-  pub record Reading (value next : ℕ) (more : List ℕ) : Type 0 where
-    pub whole : drop at l ≡ decimal_text value ++ more
-    pub behind : drop next l ≡ more
-    pub fits : value ≤ most
-    pub inside : next ≤ length l
-    pub begins : at ≤ length l
+module _ (l digits rest : List ℕ) (most : ℕ) (c : Cut l digits rest) where
+  none : ((v : ℕ) → v ≤ most → decimal_text v ≡ digits → ⊥) → DecimalAs most l None
+  none f = read-none decimal_text (λ v. v ≤ most) NoDigit l (λ v more g.
+      f v g.fits (spelt-same 10 figure (decimal_text v) digits more rest (spelt-text v) c.spelt g.ends c.ends (sym g.whole ∙ c.whole)).0)
 
-  none_over : (w : ℕ) (more : List ℕ) → drop at l ≡ decimal_text w ++ more → most < w → DecimalAs most l at None
-  none_over w more s h = none (λ v next g. let q = text-bound v w (drop next l) more g.ends (sym g.stands.whole ∙ s) in let k = g.fits in omega arith)
+  -- a zero in front
+  pub none-led : 1 < length digits → get_or digits 0 0 ≡ 48 → DecimalAs most l None
+  none-led h z = none (λ v _ e. by v digits e h z)
+    where
+      by : (v : ℕ) (ds : List ℕ) → decimal_text v ≡ ds → 1 < length ds → get_or ds 0 0 ≡ 48 → ⊥
+      by v [] e h z = omega arith
+      by zero (x ∷ xs) e h z = let a = ap length (sym (text-one 0 (omega arith)) ∙ e) in omega arith
+      by (suc v) (x ∷ xs) e h z = text-leads (suc v) [] xs (omega arith) (append-nil (decimal_text (suc v)) ∙ e ∙ ap (λ (y : ℕ). y ∷ xs) z)
 
-  module _ (d : ℕ) (more : List ℕ) (h : d < 10) (s : drop at l ≡ figure d ∷ more) where
-    pub none-large : most < d → DecimalAs most l at None
-    none-large k = none_over d more (s ∙ ap (λ (t : List ℕ). t ++ more) (sym (text-one d h))) k
+  pub not-text : (IsUtf8 digits → ⊥) → DecimalAs most l None
+  not-text f = absurd (f (IsUtf8-from_ascii digits (IsAscii-from_digits digits (spelt-digits digits c.spelt))))
 
-    pub reading-first : d ≤ most → Reading d (at + 1) more
-    reading-first k =
-        let i = ap length s in
-        let j = length-drop at l in
-        record {
-          whole = s ∙ ap (λ (t : List ℕ). t ++ more) (sym (text-one d h));
-          behind = sym (drop-drop 1 at l) ∙ ap (drop 1) s;
-          fits = k;
-          inside = omega arith;
-          begins = omega arith;
-        }
+  -- no digit stands there, or they say more than a u64 holds
+  pub none-read : most < 2 ^ 64 → (IsNumeral 10 (without_leading_plus digits) × (digits_value 10 (without_leading_plus digits) < 2 ^ 64) → ⊥) → DecimalAs most l None
+  none-read m f = none (λ v h e.
+      let some : 0 < length digits = rw e at (some-text v) in
+      let w : digits_value 10 digits ≡ v = ap (digits_value 10) (sym e) ∙ value-text v in
+      let p = no-plus digits c.spelt in
+      f (rw p ((some, spelt-digits digits c.spelt), omega arith)))
 
-  module _ (value next d : ℕ) (more : List ℕ) (h : d < 10) (s : Reading value next (figure d ∷ more)) where
-    read_more : 1 ≤ value → drop at l ≡ decimal_text (10 * value + d) ++ more
-    read_more p = s.whole ∙ sym (append_assoc (decimal_text value) (figure d ∷ []) more) ∙ ap (λ (t : List ℕ). t ++ more) (sym (text-more value d p h))
+  pub none-large : (value : ℕ) → value ≡ digits_value 10 (without_leading_plus digits) → most < value → DecimalAs most l None
+  none-large value q k = none (λ v h e.
+      let w : digits_value 10 digits ≡ v = ap (digits_value 10) (sym e) ∙ value-text v in
+      let p = ap (digits_value 10) (no-plus digits c.spelt) in
+      omega arith)
 
-    pub reading-more : 1 ≤ value → 10 * value + d ≤ most → Reading (10 * value + d) (next + 1) more
-    reading-more p k =
-        let i = ap length s.behind in
-        let j = length-drop next l in
-        record { whole = read_more p; behind = sym (drop-drop 1 next l) ∙ ap (drop 1) s.behind; fits = k; inside = omega arith; begins = s.begins }
+  pub some-read : (value : ℕ) → 0 < length (without_leading_plus digits) → value ≡ digits_value 10 (without_leading_plus digits) → value ≤ most
+      → (1 < length digits → get_or digits 0 0 ≡ 48 → ⊥) → DecimalAs most l (Some (value, rest))
+  some-read value n q k f =
+      let p = no-plus digits c.spelt in
+      let t : decimal_text value ≡ digits = ap decimal_text (q ∙ ap (digits_value 10) p) ∙ text-of digits (rw p at n) c.spelt f in
+      read-some decimal_text (λ v. v ≤ most) NoDigit l value rest
+      (record { whole = c.whole ∙ ap (λ (u : List ℕ). u ++ rest) (sym t); fits = k; ends = c.ends })
+      (λ w more _ h e. text_same value w rest more c.ends h e)
 
-    pub none_more : ((1 ≤ value) × (10 * value + d ≤ most) → ⊥) → DecimalAs most l at None
-    none_more k = by value refl
-      where
-        by : (n : ℕ) → value ≡ n → DecimalAs most l at None
-        by zero z = none (λ v after g. ends v (drop after l) g.ends (sym g.stands.whole ∙ begins))
-          where
-            begins : drop at l ≡ 48 ∷ figure d ∷ more
-            begins = s.whole ∙ ap (λ (n : ℕ). decimal_text n ++ (figure d ∷ more)) z ∙ ap (λ (t : List ℕ). t ++ (figure d ∷ more)) (text-one 0 (omega arith))
+-- ---- what the library's readers answer, where only the value is kept
 
-            ends : (v : ℕ) (rest : List ℕ) → NoDigit rest → decimal_text v ++ rest ≡ 48 ∷ figure d ∷ more → ⊥
-            ends zero rest g e = g d more h (tail-same (sym (ap (λ (t : List ℕ). t ++ rest) (text-one 0 (omega arith))) ∙ e))
-            ends (suc v) rest g e = text-leads (suc v) rest _ (omega arith) e
-        by (suc n) z = none_over (10 * value + d) more (read_more (omega arith)) (let f : 10 * value + d ≤ most → ⊥ = λ h. k (omega arith, h) in omega arith)
+module _ {A E : Type 0} (P : A → Type 0) (Q : E → Type 0) where
+  pub fails : (N : Type 0) (r : Result A E) → MatchResult r P (λ e. N × Q e) → None ≡ result_ok r → N
+  fails N (Ok x) m e = let z : ⊥ = cc in absurd z
+  fails N (Err x) m e = m.0
 
-  pub read_done : (value next : ℕ) (more : List ℕ) → Reading value next more → NoDigit more → DecimalAs most l at (Some (value, next))
-  read_done value next more s f =
-      let b = s.behind in
-      let g : Got decimal_text (λ v. v ≤ most) NoDigit l at value next = record {
-        stands = record { whole = rw b s.whole; inside = s.inside; begins = s.begins };
-        fits = s.fits;
-        ends = rw b f;
-      } in
-      read-some decimal_text (λ v. v ≤ most) NoDigit l at value next g (λ w rest _ h e. text_same value w (drop next l) rest g.ends h e)
+  pub gives : (x : A) (r : Result A E) → MatchResult r P Q → Some x ≡ result_ok r → P x
+  gives x (Ok y) m e = let q : x ≡ y = some-same e in rw q m
+  gives x (Err y) m e = let z : ⊥ = cc in absurd z
+
+module _ {E : Type 0} (text digits : List ℕ) (same : text ≡ digits) where
+  pub parse-none : (r : Result ℕ E) → ParsesUnsigned 64 10 text r → None ≡ result_ok r
+      → IsNumeral 10 (without_leading_plus digits) × (digits_value 10 (without_leading_plus digits) < 2 ^ 64) → ⊥
+  parse-none (Ok x) m e = let z : ⊥ = cc in absurd z
+  parse-none (Err x) m e = rw same at m
+
+  pub parse-some : (x : ℕ) (r : Result ℕ E) → ParsesUnsigned 64 10 text r → Some x ≡ result_ok r
+      → (0 < length (without_leading_plus digits)) × (x ≡ digits_value 10 (without_leading_plus digits))
+  parse-some x (Ok y) m e =
+      let n : 0 < length (without_leading_plus digits) = rw same at m.0.0.0 in
+      let k : y ≡ digits_value 10 (without_leading_plus digits) = rw same at m.1 in
+      (n, some-same e ∙ k)
+  parse-some x (Err y) m e = let z : ⊥ = cc in absurd z

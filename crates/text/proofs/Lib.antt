@@ -2,5 +2,4 @@ pub mod Once
 mod Spelt
 mod Decimals
 mod Words
-mod Literals
 mod Spells

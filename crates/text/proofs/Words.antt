@@ -2,17 +2,18 @@
 use mathlib.Core.Path.{◌≡◌, refl, ap, sym, ◌∙◌}
 use mathlib.Core.Bool.{Bool, true, false}
 use mathlib.Core.List.{List, [], ◌∷◌, ◌++◌, append_assoc}
-use Prim.Native.Nat.{ℕ, zero, suc, ◌+◌, ◌*◌, ◌/◌, ◌%◌, ◌≤◌, ◌<◌}
+use Prim.Native.Nat.{ℕ, zero, suc, ◌+◌, ◌*◌, ◌/◌, ◌%◌, ◌^◌, ◌≤◌, ◌<◌}
+use Rattle.std.proofs.Math.Nat.{pow-suc}
 use native.Mathlib.Numerals.{add-one}
 use native.Mathlib.Omega.{arith}
 use lib.Dec.{ltb}
 use borrow.Author.Tests.{ltb-true, ltb-false, lt-ltb, le-ltb}
-use lib.ListN.{length, take, drop, get_or, length-append, length-take, length-drop, take-append-drop}
-use lib.Seq.{take_all, drop-drop}
+use lib.ListN.{length, take, drop, get_or, length-append, take-append-drop}
+use lib.Seq.{take_all}
 use Rattle.lists.specs.Prefix.{take_more, drop_more}
 use Rattle.std.proofs.Common.{Some, None}
-use Rattle.text.specs.Text.{glyph, glyphs, word_text}
-use Rattle.text.specs.Read.{WordAs, Got, Any, ValueAs}
+use Rattle.text.specs.Text.{glyph, glyphs}
+use Rattle.text.specs.Read.{DigitsAs, Got, Any, ValueAs}
 use Rattle.lists.specs.Parts.{head-same, parts_same}
 use Rattle.text.proofs.Spelt.{Spelt, spelt-append, begun, none-here}
 use Rattle.text.proofs.Once.{read-none, read-some}
@@ -90,49 +91,50 @@ spelling-more digits value i d h s k e =
     q ∙ ap (λ (x : ℕ). take i digits ++ (x ∷ [])) e ∙ ap (λ (t : List ℕ). t ++ (glyph d ∷ [])) s.front ∙ sym (glyphs-more i value d k) in
     rw (add-one i) (record { front = rw (add-one i) at f; small = omega arith })
 
-module _ (l : List ℕ) (at : ℕ) where
-  none : ((v next : ℕ) → Got word_text (λ v. v < 0x1_0000_0000) Any l at v next → ⊥) → WordAs l at None
-  none = read-none word_text (λ v. v < 0x1_0000_0000) Any l at
+-- 16 to the k
+pub room_is : (k : ℕ) → room k ≡ 16 ^ k
+room_is zero = refl
+room_is (suc k) = let ih = room_is k in rw pow-suc (omega arith)
 
-  pub word-short : length (drop at l) < 8 → WordAs l at None
-  unfolding word_text
-  word-short h = none (λ v next g.
-      let a = ap length g.stands.whole in
-      let b = length-append (glyphs 8 v) (drop next l) in
-      let c = glyphs-length 8 v in
+pub room-most : (k : ℕ) → k ≤ 8 → room k ≤ 0x1_0000_0000
+room-most k h = room-mono k 8 h
+
+module _ (k : ℕ) (l : List ℕ) where
+  none : ((v : ℕ) (rest : List ℕ) → Got (glyphs k) (λ v. v < 16 ^ k) Any l v rest → ⊥) → DigitsAs k l None
+  none = read-none (glyphs k) (λ v. v < 16 ^ k) Any l
+
+  pub digits-short : length l < k → DigitsAs k l None
+  digits-short h = none (λ v rest g.
+      let a = ap length g.whole in
+      let b = length-append (glyphs k v) rest in
+      let c = glyphs-length k v in
       omega arith)
 
-  module _ (digits : List ℕ) (enough : 8 ≤ length (drop at l)) (cut : digits ≡ take 8 (drop at l)) where
-    size : length digits ≡ 8
-    size = ap length cut ∙ length-take 8 (drop at l) ∙ (omega arith)
-
-    whole : drop at l ≡ digits ++ drop 8 (drop at l)
-    whole = sym (take-append-drop 8 (drop at l)) ∙ ap (λ (t : List ℕ). t ++ drop 8 (drop at l)) (sym cut)
-
-    pub word_none : (value i : ℕ) → i < 8 → Spelling digits value i → ValueAs 16 glyph (get_or digits i 0) None → WordAs l at None
-    unfolding word_text
-    word_none value i h s f = none (λ v next g.
-        let m = size in
-        let a = glyphs-length 8 v in
+  module _ (digits rest : List ℕ) (size : length digits ≡ k) (whole : l ≡ digits ++ rest) where
+    pub digits_none : (value i : ℕ) → i < k → Spelling digits value i → ValueAs 16 glyph (get_or digits i 0) None → DigitsAs k l None
+    digits_none value i h s f = none (λ v more g.
+        let a = glyphs-length k v in
         let b = glyphs-length i value in
         let c = drop_more digits i 0 (omega arith) in
-        let rest : List ℕ = drop (i + 1) digits ++ drop 8 (drop at l) in
+        let left : List ℕ = drop (i + 1) digits ++ rest in
         let parts : digits ≡ glyphs i value ++ (get_or digits i 0 ∷ drop (i + 1) digits) =
         sym (take-append-drop i digits) ∙ ap (λ (t : List ℕ). t ++ drop i digits) s.front ∙ ap (λ (t : List ℕ). glyphs i value ++ t) c in
-        let e : glyphs 8 v ++ drop next l ≡ glyphs i value ++ (get_or digits i 0 ∷ rest) =
-        sym g.stands.whole ∙ whole ∙ ap (λ (t : List ℕ). t ++ drop 8 (drop at l)) parts ∙ append_assoc (glyphs i value) (get_or digits i 0 ∷ drop (i + 1) digits) (drop 8 (drop at l)) in
-        begun 16 glyph (glyphs 8 v) (glyphs i value) (drop next l) (get_or digits i 0 ∷ rest) (spelt-glyphs 8 v) (omega arith) e (none-here 16 glyph _ rest f))
+        let e : glyphs k v ++ more ≡ glyphs i value ++ (get_or digits i 0 ∷ left) =
+        sym g.whole ∙ whole ∙ ap (λ (t : List ℕ). t ++ rest) parts ∙ append_assoc (glyphs i value) (get_or digits i 0 ∷ drop (i + 1) digits) rest in
+        begun 16 glyph (glyphs k v) (glyphs i value) more (get_or digits i 0 ∷ left) (spelt-glyphs k v) (omega arith) e (none-here 16 glyph _ left f))
 
-    pub word-done : (value : ℕ) → Spelling digits value 8 → WordAs l at (Some (value, at + 8))
-    unfolding word_text
-    word-done value s =
-        let m = size in
-        let r = length-drop at l in
-        let h : at + 8 ≤ length l = omega arith in
-        let f : digits ≡ glyphs 8 value = sym (take_all 8 digits (omega arith)) ∙ s.front in
-        let w : drop at l ≡ glyphs 8 value ++ drop (at + 8) l = whole ∙ ap (λ (t : List ℕ). t ++ drop 8 (drop at l)) f ∙ ap (λ (t : List ℕ). glyphs 8 value ++ t) (drop-drop 8 at l) in
-        read-some word_text (λ v. v < 0x1_0000_0000) Any l at value (at + 8)
-        (record { stands = record { whole = w; inside = h; begins = omega arith }; fits = s.small; ends = tt })
-        (λ v rest k _ e.
-        let p = parts_same (glyphs 8 value) (glyphs 8 v) (drop (at + 8) l) rest (glyphs-length 8 value ∙ sym (glyphs-length 8 v)) e in
-        (glyphs-same 8 value v s.small k p.0, p.1))
+    pub digits-done : (value : ℕ) → Spelling digits value k → DigitsAs k l (Some (value, rest))
+    digits-done value s =
+        let f : digits ≡ glyphs k value = sym (take_all k digits (omega arith)) ∙ s.front in
+        let small : value < 16 ^ k = rw room_is at s.small in
+        read-some (glyphs k) (λ v. v < 16 ^ k) Any l value rest
+        (record { whole = whole ∙ ap (λ (t : List ℕ). t ++ rest) f; fits = small; ends = tt })
+        (λ v more h _ e.
+        let p = parts_same (glyphs k value) (glyphs k v) rest more (glyphs-length k value ∙ sym (glyphs-length k v)) e in
+        (glyphs-same k value v s.small (rw (← room_is) at h) p.0, p.1))
+
+pub chunk : (k : ℕ) (l digits rest : List ℕ) → digits ≡ take k l → rest ≡ drop k l → l ≡ digits ++ rest
+chunk k l digits rest e f = rw (e, f) (sym (take-append-drop k l))
+
+pub chunk-length : (k : ℕ) (l digits rest : List ℕ) → digits ≡ take k l → rest ≡ drop k l → length rest + k ≡ length l → length digits ≡ k
+chunk-length k l digits rest e f h = let a = ap length (chunk k l digits rest e f) in let b = length-append digits rest in omega arith

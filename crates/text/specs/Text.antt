@@ -27,6 +27,10 @@ glyphs (suc k) n = glyphs k (n / 16) ++ (glyph (n % 16) ∷ [])
 unfoldable pub word_text : ℕ → List ℕ
 word_text n = glyphs 8 n
 
+-- a number below 256 as 2 capital hexadecimal digits
+unfoldable pub byte_text : ℕ → List ℕ
+byte_text n = glyphs 2 n
+
 -- the text begins with no digit: digits are the bytes `byte d` of the numbers d below b
 abbrev pub NoneFirst : ℕ → (ℕ → ℕ) → List ℕ → Type 0
 NoneFirst b byte text = (d : ℕ) (rest : List ℕ) → d < b → text ≡ byte d ∷ rest → ⊥

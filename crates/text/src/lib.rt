@@ -1,23 +1,40 @@
-// Numbers as text: read from a line, and put into a buffer that the caller lends. A reader gives the place behind what it
-// read too, and nothing where it doesn't stand there.
+// Numbers as text: read where a text begins, and put into a buffer that the caller lends. A reader gives what is behind the
+// number too, and nothing where none stands there.
 
 #![tactic(auto)]
 
-ghost use Rattle.std.specs.Prelude.{◌≡◌, ◌+◌, ◌*◌, ◌≤◌, ◌<◌, SomeIff};
-ghost use Rattle.text.specs.Text.{decimal_text, word_text, figure, glyph as glyph_of};
-ghost use Rattle.text.specs.Read.{DecimalAs, WordAs, LiteralAs, ValueAs};
+ghost use Rattle.std.specs.Prelude.{◌≡◌, ◌≤◌, ◌<◌, length};
+ghost use Rattle.std.specs.Char.{is_ascii_digit};
+ghost use Rattle.std.specs.List.{prefix_len};
+ghost use Rattle.text.specs.Text.{decimal_text, word_text, glyph as glyph_of};
+ghost use Rattle.text.specs.Read.{seen, DecimalAs, WordAs, ByteAs, DigitsAs, ValueAs};
 ghost use Rattle.text.specs.Put.{PutAs, EndsIn};
 
-fn decimal_value(byte: u8) -> Option<u8>
-    ensures { ValueAs 10 figure byte result }
+// How many decimal digits the text begins with.
+fn digits_len(text: &[u8]) -> usize
+    ensures value { result ≡ prefix_len is_ascii_digit text.now }
+    ensures within { result ≤ length text.now }
 {
-    match byte {
-        b'0'..=b'9' => Some(byte - b'0'),
-        _ => None,
-    }
+    text.iter().take_while(|byte| byte.is_ascii_digit()).count()
 }
 
-fn hex_value(byte: u8) -> Option<u8>
+// A decimal of at most `most` with no digit behind it.
+pub fn decimal(text: &[u8], most: u64) -> Option<(u64, &[u8])>
+    ensures { DecimalAs most text.now (seen result) }
+{
+    let (digits, rest) = text.split_at(digits_len(text));
+    if digits.len() > 1 && digits[0] == b'0' {
+        return None;
+    }
+    let value = str::from_utf8(digits).ok()?.parse::<u64>().ok()?;
+    if value > most {
+        return None;
+    }
+    Some((value, rest))
+}
+
+// A capital hexadecimal digit.
+pub fn hex_value(byte: u8) -> Option<u8>
     ensures { ValueAs 16 glyph_of byte result }
 {
     match byte {
@@ -27,64 +44,38 @@ fn hex_value(byte: u8) -> Option<u8>
     }
 }
 
-// One more digit. No number goes on from 0.
-fn grown(value: u64, d: u8, most: u64) -> Option<u64>
-    ensures { SomeIff result ((1 ≤ value) × (10 * value + d ≤ most)) (10 * value + d) }
+// K capital hexadecimal digits, of at most 8.
+fn digits<const K: usize>(text: &[u8]) -> Option<(u32, &[u8])>
+    requires { K ≤ 8 }
+    ensures { DigitsAs K text.now (seen result) }
 {
-    if value == 0 {
-        return None;
-    }
-    let more = value.checked_mul(10)?.checked_add(d as u64)?;
-    if more > most {
-        return None;
-    }
-    Some(more)
-}
-
-// A decimal of at most `most` with no digit behind it.
-pub fn decimal(line: &[u8], at: usize, most: u64) -> Option<(u64, usize)>
-    ensures { DecimalAs most line.now at result }
-{
-    let (first, rest) = line.get(at..)?.split_first()?;
-    let mut value = decimal_value(*first)? as u64;
-    if value > most {
-        return None;
-    }
-    let mut next = at + 1;
-    for byte in rest {
-        let Some(d) = decimal_value(*byte) else {
-            return Some((value, next));
-        };
-        value = grown(value, d, most)?;
-        next += 1;
-    }
-    Some((value, next))
-}
-
-// 8 capital hexadecimal digits.
-pub fn word(line: &[u8], at: usize) -> Option<(u32, usize)>
-    ensures { WordAs line.now at result }
-{
-    let digits = line.get(at..)?.first_chunk::<8>()?;
+    let (digits, rest) = text.split_first_chunk::<K>()?;
     let mut value: u32 = 0;
     for byte in digits {
         let d = hex_value(*byte)?;
         value = 16 * value + d as u32;
     }
-    Some((value, at + 8))
+    Some((value, rest))
 }
 
-// Exactly the bytes `wanted`: the place behind them.
-pub fn literal(line: &[u8], at: usize, wanted: &[u8]) -> Option<usize>
-    ensures { LiteralAs wanted.now line.now at result }
+// 8 capital hexadecimal digits.
+#[tactic(auto, unfolding(crate::specs::Text::word_text))]
+pub fn word(text: &[u8]) -> Option<(u32, &[u8])>
+    ensures { WordAs text.now (seen result) }
 {
-    if !line.get(at..)?.starts_with(wanted) {
-        return None;
-    }
-    Some(at + wanted.len())
+    digits::<8>(text)
 }
 
-// The place behind the text, or `at` and the buffer as it was where it has no room.
+// Two capital hexadecimal digits.
+pub fn byte(text: &[u8]) -> Option<(u8, &[u8])>
+    ensures { ByteAs text.now (seen result) }
+{
+    let (value, rest) = digits::<2>(text)?;
+    Some((value as u8, rest))
+}
+
+// The place behind the text, or `at` and the buffer as it was where it has no room. With no heap the buffer is lent, and
+// the caller goes on at the place.
 pub fn put_literal(out: &mut [u8], at: usize, text: &[u8]) -> usize
     ensures { PutAs text.now out.old at out.new result }
 {
