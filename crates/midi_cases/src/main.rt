@@ -9,6 +9,7 @@ use std::io;
 mod parse;
 mod show;
 
+#[tactic(auto, using(midi::proofs::Whole::inside, midi::proofs::Whole::shrinks))]
 fn steps(rt: &impl Print, stream: &[u8], from: Cursor) -> io::Result<()> {
     let mut last = midi::step(stream, from);
     while let Ok(Some(event)) = last.reply {
