@@ -28,14 +28,7 @@ fn design(size: Size, mode: PlayMode) -> InstrumentDesign {
             r: 1_000_000.0,
         },
         glide: 0.000_001,
-        modulation: Modulation {
-            vibrato_rate: 0.0,
-            vibrato_cents: 0.0,
-            tremolo_rate: 0.0,
-            tremolo_depth: 0.0,
-            filter_rate: 0.0,
-            filter_octaves: 0.0,
-        },
+        modulation: Modulation::default(),
     }
 }
 

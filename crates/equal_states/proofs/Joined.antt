@@ -1,19 +1,14 @@
--- Answers to several questions, joined by `&`.
+-- Answers to questions, and one on floats.
 use Rattle.std.proofs.Common.{◌≡◌, ℕ, Bool, true, ap, sym, ◌∙◌}
 use Rattle.std.specs.Bool.{Decides}
 use Rattle.std.specs.Prelude.{Float}
 use Rattle.std.specs.Float.{binary32}
 use Rattle.std.specs.Float.Ieee.{of_bits, to_bits}
-use Rattle.std.proofs.lemmas.Bool.Decides.{Decides-and, Decides-eqb}
+use Rattle.std.proofs.lemmas.Bool.Decides.{Decides-eqb}
 use denote.Floats.{passes}
 use lib.Dec.{eqb}
 use lib.Ieee.{fits}
 use lib.Ieee.Bits.{of_bits-to_bits}
-use mathlib.Core.Bool.{◌&&◌}
-
-infixl 5 ◌&◌
-pub ◌&◌ : {x y : Bool} {P Q : Type 0} → Decides x P → Decides y Q → Decides (x && y) (P × Q)
-◌&◌ {x} {y} d e = Decides-and x y d e
 
 -- the same question in other words
 pub means : {r : Bool} {P Q : Type 0} → (P → Q) → (Q → P) → Decides r P → Decides r Q

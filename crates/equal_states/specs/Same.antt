@@ -1,8 +1,10 @@
 -- When two states are the same (document 01, "Well formed", last sentence: a state is read up to its counts; and its first paragraph:
 -- "In comparisons any NaN equals any NaN", so floats are compared as the values of the definitions, where there is one NaN and two zeros).
-use Rattle.std.specs.Prelude.{◌≡◌, Bool, true, List, ℕ}
+use Rattle.std.specs.Prelude.{◌≡◌, Bool, true, List, ℕ, take}
 use Rattle.std.specs.Bool.{Decides}
+use Rattle.stream.specs.declared.UnisonCopy.{UnisonCopy}
 use Rattle.voice.specs.View.{Seen}
+use Rattle.voice.specs.declared.Voice.{Voice}
 use Rattle.table.specs.View.{seen_in}
 use Rattle.table.specs.declared.Table.{Table}
 use Rattle.held.specs.View.{held_in}
@@ -10,7 +12,10 @@ use Rattle.held.specs.declared.Held.{Held}
 use Rattle.instrument.specs.View.{view, counted}
 use Rattle.instrument.specs.declared.Instrument.{Instrument}
 
--- what is compared of a table and of the held notes: the count as it stands, and what it shows
+-- what is compared of a voice's copies, of a table and of the held notes: the count as it stands, and what it shows
+abbrev pub copies_shown : Voice → ℕ × List UnisonCopy
+copies_shown v = (v.copy_count, take v.copy_count v.copies)
+
 abbrev pub table_shown : Table → ℕ × List Seen
 table_shown t = (t.count, seen_in t)
 

@@ -1,5 +1,4 @@
 // Whether two instrument states are the same up to their counts: what stands behind a count is not looked at.
-// Each part is compared by itself and the answers are joined, so that a comparison has one way out.
 
 #![tactic(auto)]
 
@@ -14,7 +13,7 @@ ghost use Rattle.design.specs.declared.Modulation.{Modulation};
 ghost use Rattle.design.specs.declared.PlayMode.{PlayMode};
 ghost use Rattle.voice.specs.View.{Seen, seen};
 ghost use Rattle.held.specs.View.{number_of_note};
-ghost use Rattle.equal_states.specs.Same.{table_shown, held_shown, SameScales, SameAs};
+ghost use Rattle.equal_states.specs.Same.{copies_shown, table_shown, held_shown, SameScales, Same, SameAs};
 
 use design::{Adsr, InstrumentDesign, Modulation, PlayMode};
 use envelope::{EnvGen, Stage};
@@ -70,13 +69,13 @@ impl Alike for EnvGen {
 
     fn alike(self, other: EnvGen) -> bool {
         self.a.alike(other.a)
-            & self.d.alike(other.d)
-            & self.s.alike(other.s)
-            & self.r.alike(other.r)
-            & self.sr.alike(other.sr)
-            & self.stage.alike(other.stage)
-            & self.level.alike(other.level)
-            & self.rel_from.alike(other.rel_from)
+            && self.d.alike(other.d)
+            && self.s.alike(other.s)
+            && self.r.alike(other.r)
+            && self.sr.alike(other.sr)
+            && self.stage.alike(other.stage)
+            && self.level.alike(other.level)
+            && self.rel_from.alike(other.rel_from)
     }
 }
 
@@ -101,12 +100,12 @@ impl Alike for UnisonCopy {
 
     fn alike(self, other: UnisonCopy) -> bool {
         self.l.alike(other.l)
-            & self.r.alike(other.r)
-            & self.pitch.alike(other.pitch)
-            & self.pitch_target.alike(other.pitch_target)
-            & self.glide.alike(other.glide)
-            & self.bend.alike(other.bend)
-            & self.cutoff.alike(other.cutoff)
+            && self.r.alike(other.r)
+            && self.pitch.alike(other.pitch)
+            && self.pitch_target.alike(other.pitch_target)
+            && self.glide.alike(other.glide)
+            && self.bend.alike(other.bend)
+            && self.cutoff.alike(other.cutoff)
     }
 }
 
@@ -121,22 +120,29 @@ impl Alike for Note {
 }
 
 // The counts of copies as they stand, and the copies up to them.
+#[tactic(auto, using(crate::proofs::Prefixes::map_same))]
+fn copies_alike(v: Voice, w: Voice) -> bool
+    ensures { Decides result (copies_shown v ≡ copies_shown w) }
+{
+    let end = v.copy_count.min(8);
+    v.copy_count == w.copy_count && all_alike(&v.copies[..end], &w.copies[..end])
+}
+
 impl Alike for Voice {
     ghost Shown = { Seen };
 
     ghost shown = { seen };
 
+    #[tactic(auto, using(crate::proofs::Records::voice_same, crate::proofs::Records::voice_parts))]
     fn alike(self, other: Voice) -> bool {
-        let end = self.copy_count.min(8);
-        (self.handle == other.handle)
-            & self.note.alike(other.note)
-            & (self.copy_count == other.copy_count)
-            & all_alike(&self.copies[..end], &other.copies[..end])
-            & self.built_hz.alike(other.built_hz)
-            & self.env.alike(other.env)
-            & self.gain.alike(other.gain)
-            & (self.releasing == other.releasing)
-            & (self.sustained == other.sustained)
+        self.handle == other.handle
+            && self.note.alike(other.note)
+            && copies_alike(self, other)
+            && self.built_hz.alike(other.built_hz)
+            && self.env.alike(other.env)
+            && self.gain.alike(other.gain)
+            && self.releasing == other.releasing
+            && self.sustained == other.sustained
     }
 }
 
@@ -148,7 +154,7 @@ impl Alike for Table {
 
     fn alike(self, other: Table) -> bool {
         let end = self.count.min(64);
-        (self.count == other.count) & all_alike(&self.voices[..end], &other.voices[..end])
+        self.count == other.count && all_alike(&self.voices[..end], &other.voices[..end])
     }
 }
 
@@ -160,7 +166,7 @@ impl Alike for Held {
 
     fn alike(self, other: Held) -> bool {
         let end = self.count.min(256);
-        (self.count == other.count) & all_alike(&self.notes[..end], &other.notes[..end])
+        self.count == other.count && all_alike(&self.notes[..end], &other.notes[..end])
     }
 }
 
@@ -181,9 +187,9 @@ impl Alike for Adsr {
 
     fn alike(self, other: Adsr) -> bool {
         self.a.alike(other.a)
-            & self.d.alike(other.d)
-            & self.s.alike(other.s)
-            & self.r.alike(other.r)
+            && self.d.alike(other.d)
+            && self.s.alike(other.s)
+            && self.r.alike(other.r)
     }
 }
 
@@ -194,11 +200,11 @@ impl Alike for Modulation {
 
     fn alike(self, other: Modulation) -> bool {
         self.vibrato_rate.alike(other.vibrato_rate)
-            & self.vibrato_cents.alike(other.vibrato_cents)
-            & self.tremolo_rate.alike(other.tremolo_rate)
-            & self.tremolo_depth.alike(other.tremolo_depth)
-            & self.filter_rate.alike(other.filter_rate)
-            & self.filter_octaves.alike(other.filter_octaves)
+            && self.vibrato_cents.alike(other.vibrato_cents)
+            && self.tremolo_rate.alike(other.tremolo_rate)
+            && self.tremolo_depth.alike(other.tremolo_depth)
+            && self.filter_rate.alike(other.filter_rate)
+            && self.filter_octaves.alike(other.filter_octaves)
     }
 }
 
@@ -208,14 +214,14 @@ impl Alike for InstrumentDesign {
     ghost shown = { λ x. x };
 
     fn alike(self, other: InstrumentDesign) -> bool {
-        (self.sample_rate == other.sample_rate)
-            & (self.max_voices == other.max_voices)
-            & self.mode.alike(other.mode)
-            & (self.unison == other.unison)
-            & self.unison_width.alike(other.unison_width)
-            & self.amp.alike(other.amp)
-            & self.glide.alike(other.glide)
-            & self.modulation.alike(other.modulation)
+        self.sample_rate == other.sample_rate
+            && self.max_voices == other.max_voices
+            && self.mode.alike(other.mode)
+            && self.unison == other.unison
+            && self.unison_width.alike(other.unison_width)
+            && self.amp.alike(other.amp)
+            && self.glide.alike(other.glide)
+            && self.modulation.alike(other.modulation)
     }
 }
 
@@ -224,22 +230,30 @@ fn scales_same(a: Instrument, b: Instrument) -> bool
     ensures { Decides result (SameScales a b) }
 {
     a.bend.alike(b.bend)
-        & a.brightness.alike(b.brightness)
-        & a.vib_phase.alike(b.vib_phase)
-        & a.flt_phase.alike(b.flt_phase)
-        & a.trem_phase.alike(b.trem_phase)
-        & a.trem.alike(b.trem)
+        && a.brightness.alike(b.brightness)
+        && a.vib_phase.alike(b.vib_phase)
+        && a.flt_phase.alike(b.flt_phase)
+        && a.trem_phase.alike(b.trem_phase)
+        && a.trem.alike(b.trem)
+}
+
+// The counts as they stand, and what is shown up to them.
+#[tactic(auto, unfolding(instrument::specs::View::view))]
+fn same(a: Instrument, b: Instrument) -> bool
+    ensures { Decides result (Same a b) }
+{
+    a.design.alike(b.design)
+        && a.table.alike(b.table)
+        && a.next_handle == b.next_handle
+        && a.sustain == b.sustain
+        && scales_same(a, b)
+        && a.held.alike(b.held)
+        && a.frames == b.frames
 }
 
 // Whether two states are the same up to their counts; the counts are compared as they stand.
 pub fn equal(a: Instrument, b: Instrument) -> bool
     ensures { SameAs a b result }
 {
-    a.design.alike(b.design)
-        & a.table.alike(b.table)
-        & (a.next_handle == b.next_handle)
-        & (a.sustain == b.sustain)
-        & scales_same(a, b)
-        & a.held.alike(b.held)
-        & (a.frames == b.frames)
+    same(a, b)
 }

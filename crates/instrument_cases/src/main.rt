@@ -16,7 +16,6 @@ use lines::Line;
 use patterns::Page;
 use replay::Session;
 use std::io;
-use std::io::Read;
 
 mod made;
 
@@ -61,19 +60,12 @@ fn line(rt: &impl Print, session: &mut Session, line: &[u8]) -> io::Result<()> {
     answer(rt, session, line)
 }
 
-// Nothing says that the input ends, so the turns are counted.
 fn main(rt: HostRuntime) -> io::Result<()> {
-    let mut input = rt.stdin();
     let mut buffer = [0; 4096];
     let mut session = Session::new();
     session.numbers = true;
     let mut gathered = Line::<257>::new();
-    for _ in 0..u64::MAX {
-        let count = input.read(&mut buffer)?;
-        if count == 0 {
-            break;
-        }
-        gathered.take(&buffer[..count], |text| line(&rt, &mut session, text))?;
-    }
-    Ok(())
+    lines::blocks(&mut rt.stdin(), &mut buffer, |block| {
+        gathered.take(block, |text| line(&rt, &mut session, text))
+    })
 }

@@ -1,5 +1,5 @@
 // Answers lines on notes, envelopes, copies and designs, as the Rust answered them (oracle/README.md).
-// A line in is a letter and seven words, 65 bytes; a line out is a letter and eight words, 74 bytes.
+// A line in is a letter and seven words; a line out is a letter and eight words.
 
 #![tactic(auto)]
 
@@ -9,12 +9,14 @@ use design::{Adsr, InstrumentDesign, Modulation, PlayMode};
 use envelope::EnvGen;
 use outcome::Refusal;
 use std::io;
-use std::io::{ErrorKind, Read};
 use stream::UnisonCopy;
-use words::{field, float, say};
+use words::{Line, say};
+
+// The words of an answer.
+type Words = [u32; 8];
 
 // One envelope, one copy, and the settings that a line on designs takes over.
-#[derive(Clone, Copy)]
+#[derive(Drop)]
 struct Leaf {
     env: EnvGen,
     copy: UnisonCopy,
@@ -22,165 +24,199 @@ struct Leaf {
     modulation: Modulation,
 }
 
-fn start() -> Leaf {
-    Leaf {
-        env: EnvGen::default(),
-        copy: UnisonCopy::new(0, 1, 0.0),
-        amp: Adsr::default(),
-        modulation: Modulation::default(),
-    }
-}
-
-// The first word is a reply's number or a sum.
-fn say_env(rt: &impl Print, letter: char, first: u32, e: EnvGen) -> io::Result<()> {
-    let level = float32::to_bits(e.level());
-    let from = float32::to_bits(e.rel_from);
-    let faded = u32::from(e.faded());
-    let active = u32::from(e.active());
-    say(
-        rt,
-        letter,
-        [first, e.stage as u32, level, from, faded, active, 0, 0],
-    )
-}
-
-fn say_copy(rt: &impl Print, letter: char, c: UnisonCopy) -> io::Result<()> {
-    let l = float32::to_bits(c.l);
-    let r = float32::to_bits(c.r);
-    let pitch = float32::to_bits(c.pitch);
-    let target = float32::to_bits(c.pitch_target);
-    let glide = float32::to_bits(c.glide);
-    let bend = float32::to_bits(c.bend);
-    let cutoff = c.cutoff;
-    // Whether a cutoff was set, and which.
-    let (set, cut) = match cutoff {
-        None => (0, 0),
-        Some(x) => (1, float32::to_bits(x)),
-    };
-    say(rt, letter, [l, r, pitch, target, glide, bend, set, cut])
-}
-
 // N: the frequency of a note.
-fn note_line(rt: &impl Print, s: &[u8]) -> io::Result<()> {
-    let n = note::Note((field(s, 0) % 256) as u8);
-    say(rt, 'N', [float32::to_bits(n.freq()), 0, 0, 0, 0, 0, 0, 0])
+fn note_line(line: &Line) -> Words {
+    alone(float32::to_bits(note::Note(line.byte(0)).freq()))
 }
 
 // X: what float32 makes of two floats.
-fn float_line(rt: &impl Print, s: &[u8]) -> io::Result<()> {
-    let a = float(s, 0);
-    let b = float(s, 1);
-    let fract = float32::to_bits(float32::fract(a));
-    let below = u32::from(float32::total_below(a, b));
-    let max = float32::to_bits(float32::max(a, b));
-    let min = float32::to_bits(float32::min(a, b));
-    let level = float32::to_bits(float32::clamp(a, 0.0, 1.0));
-    let pan = float32::to_bits(float32::clamp(a, -1.0, 1.0));
-    let nan = u32::from(float32::is_nan(a));
-    let finite = u32::from(float32::is_finite(a));
-    say(rt, 'X', [fract, below, max, min, level, pan, nan, finite])
+fn float_line(line: &Line) -> Words {
+    let a = line.float(0);
+    let b = line.float(1);
+    [
+        float32::to_bits(float32::fract(a)),
+        u32::from(float32::total_below(a, b)),
+        float32::to_bits(float32::max(a, b)),
+        float32::to_bits(float32::min(a, b)),
+        float32::to_bits(float32::clamp(a, 0.0, 1.0)),
+        float32::to_bits(float32::clamp(a, -1.0, 1.0)),
+        u32::from(float32::is_nan(a)),
+        u32::from(float32::is_finite(a)),
+    ]
+}
+
+fn alone(word: u32) -> Words {
+    [word, 0, 0, 0, 0, 0, 0, 0]
 }
 
 // The number of a refusal, 0 where nothing is refused.
 fn refusal_number(reply: Result<(), Refusal>) -> u32 {
     match reply {
-        Ok(_) => 0,
+        Ok(()) => 0,
         Err(reason) => u32::from(reason.number()),
     }
 }
 
-// E: a new envelope of a, d, s, r and a rate.
-fn env_line(rt: &impl Print, leaf: Leaf, s: &[u8]) -> io::Result<Leaf> {
-    let amp = Adsr {
-        a: float(s, 0),
-        d: float(s, 1),
-        s: float(s, 2),
-        r: float(s, 3),
-    };
-    let new = EnvGen::new(amp.a, amp.d, amp.s, amp.r, field(s, 4));
-    let env = new.state;
-    let reply = new.reply;
-    say_env(rt, 'E', refusal_number(reply), env)?;
-    let copy = leaf.copy;
-    let modulation = leaf.modulation;
-    Ok(Leaf {
-        env,
-        copy,
-        amp,
-        modulation,
-    })
-}
-
-// By the line's number.
-fn gated(e: EnvGen, kind: u32) -> EnvGen {
-    match kind {
-        0 => e.gate_on(),
-        1 => e.gate_off(),
-        _ => e.kill(),
-    }
-}
-
-// G: gate_on, gate_off or kill.
-fn gate_line(rt: &impl Print, mut leaf: Leaf, s: &[u8]) -> io::Result<Leaf> {
-    let before = leaf.env;
-    let e = gated(before, field(s, 0));
-    say_env(rt, 'G', 0, e)?;
-    leaf.env = e;
-    Ok(leaf)
-}
-
-#[derive(Clone, Copy)]
-struct Ticked {
-    env: EnvGen,
-    sum: u32,
-}
-
 // A sum over words that tells their order.
 fn mixed(sum: u32, x: u32) -> u32 {
-    ((sum as u64 * 16_777_619 + x as u64) % 0x1_0000_0000) as u32
+    sum.wrapping_mul(16_777_619).wrapping_add(x)
 }
 
-fn ticks(e: EnvGen, n: u32) -> Ticked {
-    let mut env = e;
-    let mut sum: u32 = 0;
-    for _ in 0..n {
-        env = env.tick();
-        sum = mixed(sum, float32::to_bits(env.level));
+impl Leaf {
+    fn new() -> Leaf {
+        Leaf {
+            env: EnvGen::default(),
+            copy: UnisonCopy::new(0, 1, 0.0),
+            amp: Adsr::default(),
+            modulation: Modulation::default(),
+        }
     }
-    Ticked { env, sum }
-}
 
-// T: that many ticks.
-fn tick_line(rt: &impl Print, mut leaf: Leaf, s: &[u8]) -> io::Result<Leaf> {
-    let before = leaf.env;
-    let t = ticks(before, field(s, 0));
-    let e = t.env;
-    say_env(rt, 'T', t.sum, e)?;
-    leaf.env = e;
-    Ok(leaf)
-}
+    // The first word is a reply's number or a sum.
+    fn env_words(&self, first: u32) -> Words {
+        let e = self.env;
+        [
+            first,
+            e.stage as u32,
+            float32::to_bits(e.level()),
+            float32::to_bits(e.rel_from),
+            u32::from(e.faded()),
+            u32::from(e.active()),
+            0,
+            0,
+        ]
+    }
 
-// Says a copy and keeps it.
-fn copied(rt: &impl Print, mut leaf: Leaf, letter: char, copy: UnisonCopy) -> io::Result<Leaf> {
-    say_copy(rt, letter, copy)?;
-    leaf.copy = copy;
-    Ok(leaf)
-}
+    // The last two words tell whether a cutoff was set, and which.
+    fn copy_words(&self) -> Words {
+        let c = self.copy;
+        let (set, cutoff) = match c.cutoff {
+            None => (0, 0),
+            Some(x) => (1, float32::to_bits(x)),
+        };
+        [
+            float32::to_bits(c.l),
+            float32::to_bits(c.r),
+            float32::to_bits(c.pitch),
+            float32::to_bits(c.pitch_target),
+            float32::to_bits(c.glide),
+            float32::to_bits(c.bend),
+            set,
+            cutoff,
+        ]
+    }
 
-// C: copy k of n at a width, under a bend and a brightness.
-fn new_copy(s: &[u8]) -> UnisonCopy {
-    let k = (field(s, 0) % 256) as u8;
-    let n = (field(s, 1) % 256) as u8;
-    UnisonCopy::new(k, n, float(s, 2)).catch_up(float(s, 3), float(s, 4))
+    // E: a new envelope of a, d, s, r and a rate.
+    fn env_line(&mut self, line: &Line) -> Words {
+        let amp = Adsr {
+            a: line.float(0),
+            d: line.float(1),
+            s: line.float(2),
+            r: line.float(3),
+        };
+        let new = EnvGen::new(amp.a, amp.d, amp.s, amp.r, line.words[4]);
+        self.env = new.state;
+        self.amp = amp;
+        self.env_words(refusal_number(new.reply))
+    }
+
+    // G: gate_on, gate_off or kill.
+    fn gate_line(&mut self, line: &Line) -> Words {
+        self.env = match line.words[0] {
+            0 => self.env.gate_on(),
+            1 => self.env.gate_off(),
+            _ => self.env.kill(),
+        };
+        self.env_words(0)
+    }
+
+    // T: that many ticks.
+    fn tick_line(&mut self, line: &Line) -> Words {
+        let mut sum = 0;
+        for _ in 0..line.words[0] {
+            self.env = self.env.tick();
+            sum = mixed(sum, float32::to_bits(self.env.level));
+        }
+        self.env_words(sum)
+    }
+
+    fn copied(&mut self, copy: UnisonCopy) -> Words {
+        self.copy = copy;
+        self.copy_words()
+    }
+
+    // C: copy k of n at a width, under a bend and a brightness.
+    fn copy_line(&mut self, line: &Line) -> Words {
+        let copy = UnisonCopy::new(line.byte(0), line.byte(1), line.float(2));
+        self.copied(copy.catch_up(line.float(3), line.float(4)))
+    }
+
+    // L: glide_block of that many frames, 1,024 at most: of more, nothing.
+    fn glide_line(&mut self, rt: &impl Print, line: &Line) -> io::Result<Words> {
+        let mut room = [0.0; 1024];
+        if let Some(curve) = room.get_mut(..line.words[0] as usize) {
+            self.copy = self.copy.glide_block(curve);
+            say_curve(rt, curve)?;
+        }
+        Ok(self.copy_words())
+    }
+
+    // M: whether six settings modulate.
+    fn modulation_line(&mut self, line: &Line) -> Words {
+        self.modulation = Modulation {
+            vibrato_rate: line.float(0),
+            vibrato_cents: line.float(1),
+            tremolo_rate: line.float(2),
+            tremolo_depth: line.float(3),
+            filter_rate: line.float(4),
+            filter_octaves: line.float(5),
+        };
+        alone(u32::from(self.modulation.is_active()))
+    }
+
+    // D: whether a design of a rate, max, unison, width and glide is accepted, with the last amp and modulation.
+    fn design_line(&self, line: &Line) -> Words {
+        let d = InstrumentDesign {
+            sample_rate: line.words[0],
+            max_voices: line.words[1],
+            mode: PlayMode::Poly,
+            unison: line.words[2],
+            unison_width: line.float(3),
+            amp: self.amp,
+            glide: line.float(4),
+            modulation: self.modulation,
+        };
+        [refusal_number(d.accepted()), d.copies(), 0, 0, 0, 0, 0, 0]
+    }
+
+    // The answer to a line; none to a letter that stands for nothing.
+    fn answer(&mut self, rt: &impl Print, line: &Line) -> io::Result<()> {
+        let words = match line.letter {
+            b'N' => note_line(line),
+            b'X' => float_line(line),
+            b'E' => self.env_line(line),
+            b'G' => self.gate_line(line),
+            b'T' => self.tick_line(line),
+            b'C' => self.copy_line(line),
+            b'P' => self.copied(self.copy.glide_pitch(line.float(0), line.float(1))),
+            b'B' => self.copied(self.copy.set_bend(line.float(0))),
+            b'F' => self.copied(self.copy.set_cutoff(line.float(0))),
+            b'L' => self.glide_line(rt, line)?,
+            b'M' => self.modulation_line(line),
+            b'D' => self.design_line(line),
+            _ => return Ok(()),
+        };
+        say(rt, line.letter, words)
+    }
 }
 
 // Up to eight numbers of a curve, and 0 behind its end.
 fn say_eight(rt: &impl Print, part: &[f32]) -> io::Result<()> {
-    let mut words = [0u32; 8];
+    let mut words = [0; 8];
     for (word, x) in words.iter_mut().zip(part) {
         *word = float32::to_bits(*x);
     }
-    say(rt, 'l', words)
+    say(rt, b'l', words)
 }
 
 fn say_curve(rt: &impl Print, curve: &[f32]) -> io::Result<()> {
@@ -190,122 +226,21 @@ fn say_curve(rt: &impl Print, curve: &[f32]) -> io::Result<()> {
     Ok(())
 }
 
-// Glides over the whole slice and says every number.
-fn glided(rt: &impl Print, c: UnisonCopy, curve: &mut [f32]) -> io::Result<UnisonCopy> {
-    let after = c.glide_block(curve);
-    say_curve(rt, curve)?;
-    Ok(after)
-}
-
-fn glided_part(
-    rt: &impl Print,
-    c: UnisonCopy,
-    curve: &mut [f32],
-    n: usize,
-) -> io::Result<UnisonCopy> {
-    if n > curve.len() {
-        return Ok(c);
-    }
-    glided(rt, c, &mut curve[..n])
-}
-
-// L: glide_block of that many frames, 1,024 at most.
-fn glide_line(rt: &impl Print, leaf: Leaf, s: &[u8]) -> io::Result<Leaf> {
-    let mut curve = [0f32; 1024];
-    let c = glided_part(rt, leaf.copy, &mut curve, field(s, 0) as usize)?;
-    copied(rt, leaf, 'L', c)
-}
-
-// M: whether six settings modulate.
-fn modulation_line(rt: &impl Print, mut leaf: Leaf, s: &[u8]) -> io::Result<Leaf> {
-    let m = Modulation {
-        vibrato_rate: float(s, 0),
-        vibrato_cents: float(s, 1),
-        tremolo_rate: float(s, 2),
-        tremolo_depth: float(s, 3),
-        filter_rate: float(s, 4),
-        filter_octaves: float(s, 5),
-    };
-    say(rt, 'M', [u32::from(m.is_active()), 0, 0, 0, 0, 0, 0, 0])?;
-    leaf.modulation = m;
-    Ok(leaf)
-}
-
-// D: whether a design of a rate, max, unison, width and glide is accepted, with the last amp and modulation.
-fn design_line(rt: &impl Print, leaf: Leaf, s: &[u8]) -> io::Result<()> {
-    let amp = leaf.amp;
-    let modulation = leaf.modulation;
-    let d = InstrumentDesign {
-        sample_rate: field(s, 0),
-        max_voices: field(s, 1),
-        mode: PlayMode::Poly,
-        unison: field(s, 2),
-        unison_width: float(s, 3),
-        amp,
-        glide: float(s, 4),
-        modulation,
-    };
-    say(
-        rt,
-        'D',
-        [refusal_number(d.accepted()), d.copies(), 0, 0, 0, 0, 0, 0],
-    )
-}
-
-fn step(rt: &impl Print, leaf: Leaf, letter: u8, s: &[u8]) -> io::Result<Leaf> {
-    // The letters and numbers are those of the lines.
-    match letter {
-        b'E' => env_line(rt, leaf, s),
-        b'G' => gate_line(rt, leaf, s),
-        b'T' => tick_line(rt, leaf, s),
-        b'C' => copied(rt, leaf, 'C', new_copy(s)),
-        b'P' => copied(
-            rt,
-            leaf,
-            'P',
-            leaf.copy.glide_pitch(float(s, 0), float(s, 1)),
-        ),
-        b'B' => copied(rt, leaf, 'B', leaf.copy.set_bend(float(s, 0))),
-        b'F' => copied(rt, leaf, 'F', leaf.copy.set_cutoff(float(s, 0))),
-        b'L' => glide_line(rt, leaf, s),
-        b'M' => modulation_line(rt, leaf, s),
-        b'D' => {
-            design_line(rt, leaf, s)?;
-            Ok(leaf)
-        }
-        b'N' => {
-            note_line(rt, s)?;
-            Ok(leaf)
-        }
-        b'X' => {
-            float_line(rt, s)?;
-            Ok(leaf)
-        }
-        _ => Ok(leaf),
+// A text that is no line is passed over.
+fn answer(rt: &impl Print, leaf: &mut Leaf, text: &[u8]) -> io::Result<()> {
+    match Line::read(text) {
+        Some(line) => leaf.answer(rt, &line),
+        None => Ok(()),
     }
 }
 
-// Reads a line and answers it; a short one ends the run.
-fn turn(rt: &impl Print, input: &mut impl Read, leaf: Leaf) -> io::Result<Option<Leaf>> {
-    let mut line = [0u8; 65];
-    if let Err(e) = input.read_exact(&mut line) {
-        if e.kind() == ErrorKind::UnexpectedEof {
-            return Ok(None);
-        }
-        return Err(e);
-    }
-    Ok(Some(step(rt, leaf, line[0], &line)?))
-}
-
-// A proved loop has to end, and nothing says that the input does: it counts up to what no run reaches.
+// Of a text longer than 65 bytes the first 65 are kept: it is too long already.
 fn main(rt: HostRuntime) -> io::Result<()> {
-    let mut input = rt.stdin();
-    let mut leaf = start();
-    for _ in 0..u64::MAX {
-        let Some(after) = turn(&rt, &mut input, leaf)? else {
-            break;
-        };
-        leaf = after;
-    }
-    Ok(())
+    let mut buffer = [0; 4096];
+    let mut leaf = Leaf::new();
+    let mut line = lines::Line::<65>::new();
+    lines::blocks(&mut rt.stdin(), &mut buffer, |block| {
+        line.take(block, |text| answer(&rt, &mut leaf, text))
+    })?;
+    line.finish(|text| answer(&rt, &mut leaf, text))
 }

@@ -6,9 +6,10 @@ ghost use Rattle.std.specs.Prelude.{◌≡◌, ◌++◌, ◌∷◌, ◌≤◌, �
 ghost use Rattle.std.specs.Result.{OnOk};
 ghost use Rattle.std.specs.List.{fold, FoldsTo};
 ghost use Rattle.std.specs.Fn.{CalledAt, FnOnceReturnsAt};
-ghost use Rattle.lines.specs.Lines.{after};
+ghost use Rattle.lines.specs.Lines.{after, WasReadIn};
 
 use std::io;
+use std::io::Read;
 use std::marker::Model;
 
 // The line under way: of a longer one, its first N bytes.
@@ -91,4 +92,26 @@ impl<const N: usize> Line<N> {
         }
         last(self.text())
     }
+}
+
+// Hands each block of input to `each`, to the first that cannot be read or answered.
+// Nothing says that an input ends, so the turns are counted, up to what no run reaches.
+pub fn blocks<R: Read, F: FnMut(&[u8]) -> io::Result<()>>(
+    input: &mut R,
+    buffer: &mut [u8],
+    mut each: F,
+) -> io::Result<()>
+    requires { F.IsAlwaysCallable each }
+    ensures { OnOk result ((blocks : List (List ℕ)) × (last : F) ×
+        FoldsTo (λ f block g. CalledAt F.FnMut f block (Ok tt) g) each blocks last
+        × WasReadIn blocks (R.remaining input.old) (R.remaining input.new) buffer.old) }
+{
+    for _turn in 0..u64::MAX {
+        let count = input.read(buffer)?;
+        if count == 0 {
+            return Ok(());
+        }
+        each(&buffer[..count])?;
+    }
+    Ok(())
 }

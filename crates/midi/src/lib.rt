@@ -176,26 +176,32 @@ pub fn step(stream: &[u8], cursor: Cursor) -> Outcome<Cursor, Option<Event>>
 
 // The theorems on whole streams, each proved in its own proof file.
 
+#[tactic(auto, using(crate::proofs::Whole::moves, crate::proofs::Whole::ends))]
 pub fn progress()
     ensures { Progress }
 {}
 
+#[tactic(auto, using(crate::proofs::Whole::ignored))]
 pub fn real_time_ignored()
     ensures { RealTimeIgnored }
 {}
 
+#[tactic(auto, using(crate::proofs::Encoded::read_back))]
 pub fn round_trip()
     ensures { RoundTrip }
 {}
 
+#[tactic(auto, using(crate::proofs::Whole::at_length))]
 pub fn end_last()
     ensures { EndLast }
 {}
 
+#[tactic(auto, using(crate::proofs::Whole::kept))]
 pub fn refusal_keeps()
     ensures { RefusalKeeps }
 {}
 
+#[tactic(auto, using(crate::proofs::Ranges::limited))]
 pub fn values_limited()
     ensures { Limits }
 {}

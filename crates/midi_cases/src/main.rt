@@ -5,11 +5,11 @@
 use lines::Line;
 use midi::Cursor;
 use std::io;
-use std::io::Read;
 
 mod parse;
 mod show;
 
+#[tactic(auto, using(midi::proofs::Whole::inside, midi::proofs::Whole::shrinks))]
 fn steps(rt: &impl Print, stream: &[u8], from: Cursor) -> io::Result<()> {
     let mut last = midi::step(stream, from);
     while let Ok(Some(event)) = last.reply {
@@ -36,17 +36,11 @@ fn end_line(rt: &impl Print, line: &[u8]) -> io::Result<()> {
     answer_line(rt, line, &mut stream)
 }
 
-// Nothing says that the input ends, so the turns are counted.
 fn main(rt: HostRuntime) -> io::Result<()> {
-    let mut input = rt.stdin();
     let mut buffer = [0; 4096];
     let mut line = Line::<257>::new();
-    for _ in 0..u64::MAX {
-        let count = input.read(&mut buffer)?;
-        if count == 0 {
-            break;
-        }
-        line.take(&buffer[..count], |text| end_line(&rt, text))?;
-    }
+    lines::blocks(&mut rt.stdin(), &mut buffer, |block| {
+        line.take(block, |text| end_line(&rt, text))
+    })?;
     line.finish(|text| end_line(&rt, text))
 }

@@ -110,6 +110,7 @@ pub fn read_stream(stream: &[u8]) -> Tally
 }
 
 // The theorem on tallies.
+#[tactic(auto, using(crate::proofs::Complete::ended, crate::proofs::Complete::counted))]
 pub fn tally_complete()
     ensures { TallyComplete }
 {}

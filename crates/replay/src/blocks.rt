@@ -1,6 +1,6 @@
 // Plan and Mix, over lent places that hold one mark before.
 
-ghost use Rattle.std.specs.Prelude.{◌≤◌};
+ghost use Rattle.std.specs.Prelude.{◌≤◌, IfSome};
 
 use crate::ask::{Lend, Mix, Plan};
 use crate::{Session, said};
@@ -8,40 +8,39 @@ use instrument::Instrument;
 use outcome::Refusal;
 use patterns::{Page, bits, sums};
 
-// All copies of so many voices, 0 beyond the size of a table.
-fn rows(voices: usize, copies: u32) -> usize
-    ensures { result ≤ 512 }
+// All copies of so many voices; none beyond the size of a table.
+fn rows(voices: usize, copies: u32) -> Option<usize>
+    ensures { IfSome result (λ n. n ≤ 512) }
 {
-    if 64 < voices {
-        return 0;
+    if 64 < voices || 8 < copies {
+        return None;
     }
-    if 8 < copies {
-        return 0;
-    }
-    voices * copies as usize
+    Some(voices * copies as usize)
 }
 
-// The numbers that a block wants, 0 where it is too long.
-fn wanted(frames: usize, rows: usize) -> usize
+// The numbers that a block wants, if it is not too long.
+fn wanted(frames: usize, rows: usize) -> Option<usize>
     requires { rows ≤ 512 }
-    ensures { result ≤ 524_288 }
+    ensures { IfSome result (λ n. n ≤ 524_288) }
 {
     if 1024 < frames {
-        return 0;
+        return None;
     }
-    frames * rows
+    Some(frames * rows)
 }
 
-fn wanted_by(s: &Instrument, frames: usize) -> usize
-    ensures { result ≤ 524_288 }
+fn wanted_by(s: &Instrument, frames: usize) -> Option<usize>
+    ensures { IfSome result (λ n. n ≤ 524_288) }
 {
-    wanted(frames, rows(s.table.count, s.design.copies()))
+    wanted(frames, rows(s.table.count, s.design.copies())?)
 }
 
-// How many numbers are lent where so many are wanted. One fewer than none is one.
-fn lent(wanted: usize, lend: Lend) -> usize
-    requires { wanted ≤ 524_288 }
+// How many numbers are lent where so many are wanted. One fewer than none is one. A block beyond the limits wants none:
+// it is refused whatever is lent.
+fn lent(wanted: Option<usize>, lend: Lend) -> usize
+    requires { IfSome wanted (λ n. n ≤ 524_288) }
 {
+    let wanted = wanted.unwrap_or(0);
     match lend {
         Lend::Exact => wanted,
         Lend::Fewer if 0 < wanted => wanted - 1,

@@ -4,6 +4,7 @@
 #![tactic(auto)]
 
 use ask::{Part, Request};
+use design::InstrumentDesign;
 use envelope::EnvGen;
 use instrument::Instrument;
 use outcome::Refusal;
@@ -28,7 +29,7 @@ impl Session {
     // An instrument and an envelope of refused starts.
     pub fn new() -> Session {
         Session {
-            instrument: Instrument::new(design::zero_design()).state,
+            instrument: Instrument::new(InstrumentDesign::default()).state,
             env: EnvGen::default(),
             numbers: false,
         }

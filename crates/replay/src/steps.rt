@@ -4,6 +4,7 @@ use crate::said;
 use midi::Cursor;
 use patterns::Page;
 
+#[tactic(auto, using(midi::proofs::Whole::inside, midi::proofs::Whole::shrinks))]
 fn walk(page: &mut Page, stream: &[u8], from: Cursor) {
     let mut found = midi::step(stream, from);
     said::step(page, found);

@@ -10,6 +10,7 @@ use native.Mathlib.Omega.{arith}
 use lib.ListN.{length, take, drop, get_or, take-append-drop, length-append, length-take, length-drop}
 use lib.Seq.{take_all, take_at, drop_at, drop-drop}
 use lib.Ieee.{to_bits, binary32}
+use Rattle.std.specs.Int.{from_bool}
 use Rattle.model.specs.Types as model
 use Rattle.text.specs.Put.{PutAs}
 use Rattle.lists.specs.Parts.{flat-more}
@@ -54,12 +55,21 @@ module _ (t u old mid new : List ℕ) (at n m : ℕ) where
         );
   }
 
+-- as the text crate puts them
+pub puts_both : (t u old mid new : List ℕ) (at n m : ℕ) → PutAs t old at mid n → PutAs u mid n new m → Puts (t ++ u) old at new m
+puts_both t u old mid new at n m p q = puts_then t u old mid new at n m (puts t old at mid n p) (puts u mid n new m q)
+
 pub puts_none : (old : List ℕ) (at : ℕ) → Puts [] old at old at
 puts_none old at = record {
   room = λ h.
       let z : at + 0 ≡ at = omega arith in
       (sym (take-append-drop at old) ∙ ap (λ (k : ℕ). take at old ++ drop k old) (sym z), sym z);
 }
+
+-- what the library makes of a flag
+pub flag : (b : Bool) (n : ℕ) → n ≡ from_bool b → n ≡ one_if b
+flag true n e = e
+flag false n e = e
 
 -- ---- the rows of a table
 
@@ -128,12 +138,12 @@ word-length n = glyphs-length 8 n
 pub part_length : (lead : List ℕ) (n : ℕ) → n < 0x1_0000_0000_0000_0000 → length (decimal_part lead n) ≤ length lead + 20
 part_length lead n h = let d = decimal-length n h in let l = length-append lead (decimal_text n) in omega arith
 
-pub one-length : (word : List ℕ) (n : ℕ) → length (decimal_part word n) ≤ length word + 20 → length (one_text word n) ≤ length word + 22
-one-length word n h = let l = length-append (decimal_part word n) close_line in omega arith
+pub one_length : (word : List ℕ) (n : ℕ) → length (decimal_part word n) ≤ length word + 20 → length (one_text word n) ≤ length word + 22
+one_length word n h = let l = length-append (decimal_part word n) close_line in omega arith
 
-pub started-length : (a b c : ℕ) → length (decimal_part started_word a) ≤ 29 → length (decimal_part space b) ≤ 21 → length (decimal_part space c) ≤ 21
+pub started_length : (a b c : ℕ) → length (decimal_part started_word a) ≤ 29 → length (decimal_part space b) ≤ 21 → length (decimal_part space c) ≤ 21
     → length (decimal_part started_word a ++ (decimal_part space b ++ (decimal_part space c ++ close_line))) ≤ 73
-started-length a b c h k l =
+started_length a b c h k l =
     let x = length-append (decimal_part space c) close_line in
     let y = length-append (decimal_part space b) (decimal_part space c ++ close_line) in
     let z = length-append (decimal_part started_word a) (decimal_part space b ++ (decimal_part space c ++ close_line)) in
@@ -174,8 +184,8 @@ rows-length-done vs n m i s e h g p =
     length-append voices_word (flat_map row_text (voices_of (seen_first n vs))) in
     omega arith
 
-pub table-length : (vs : List model.Voice) → length (rows_text vs) ≤ 3655 → length (table_text vs) ≤ 4096
-table-length vs h = let l = length-append (rows_text vs) close_line in omega arith
+pub table_length : (vs : List model.Voice) → length (rows_text vs) ≤ 3655 → length (table_text vs) ≤ 4096
+table_length vs h = let l = length-append (rows_text vs) close_line in omega arith
 
 -- a whole answer
 pub printed : (text old new : List ℕ) (count : ℕ) → Puts text old 0 new count → length text ≤ 4096 → 4096 ≤ length old → Printed text old new count

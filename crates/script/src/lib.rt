@@ -3,9 +3,8 @@
 #![tactic(auto)]
 
 ghost use Rattle.std.specs.Prelude.{◌≡◌, ◌+◌, ◌≤◌, length, Ok};
-ghost use Rattle.lists.specs.Count.{one_if};
 ghost use Rattle.voice.specs.View.{shown};
-ghost use Rattle.table.specs.View.{seen_first, voices_of};
+ghost use Rattle.table.specs.View.{voices_in};
 ghost use Rattle.instrument.specs.Calls.{reply_of};
 ghost use Rattle.model.specs.Types.{Reply.started};
 ghost use Rattle.forms.specs.Forms.{decimal_part, word_part};
@@ -16,6 +15,7 @@ ghost use Rattle.script.specs.Lines.{Puts, call_of, NoDesign, Stays, DesignDoes,
 use forms::{DesignForm, Form, OnForm};
 use instrument::{Instrument, Reply};
 use outcome::Refusal;
+use table::Table;
 use voice::Voice;
 
 // The instrument, once a design was accepted.
@@ -28,12 +28,7 @@ pub struct Said {
     pub count: usize,
 }
 
-fn bit(b: bool) -> u64
-    ensures { result ≡ one_if b }
-{
-    if b { 1 } else { 0 }
-}
-
+#[tactic(auto, using(crate::proofs::Prints::puts_both, crate::proofs::Prints::part_length))]
 fn put_decimal(out: &mut [u8], at: usize, lead: &[u8], n: u64) -> usize
     ensures puts { Puts (decimal_part lead.now n) out.old at out.new result }
     ensures n_in_bounds { length (decimal_part lead.now n) ≤ length lead.now + 20 }
@@ -42,6 +37,7 @@ fn put_decimal(out: &mut [u8], at: usize, lead: &[u8], n: u64) -> usize
     text::put_decimal(out, next, n)
 }
 
+#[tactic(auto, using(crate::proofs::Prints::puts_both))]
 fn put_word(out: &mut [u8], at: usize, lead: &[u8], n: u32) -> usize
     ensures { Puts (word_part lead.now n) out.old at out.new result }
 {
@@ -49,6 +45,7 @@ fn put_word(out: &mut [u8], at: usize, lead: &[u8], n: u32) -> usize
     text::put_word(out, next, n)
 }
 
+#[tactic(auto, using(crate::proofs::Prints::puts, crate::proofs::Prints::puts_then, crate::proofs::Prints::one_length))]
 fn put_one(out: &mut [u8], word: &[u8], n: u64) -> usize
     ensures puts { Puts (one_text word.now n) out.old 0 out.new result }
     ensures n_in_bounds { length (one_text word.now n) ≤ length word.now + 22 }
@@ -67,6 +64,7 @@ fn put_started(out: &mut [u8], handle: u64, killed: u64, taken: u64) -> usize
     text::put_literal(out, c, b")\n")
 }
 
+#[tactic(auto, using(crate::proofs::Prints::puts, crate::proofs::Prints::flag))]
 fn put_accepted(out: &mut [u8], reply: Reply) -> usize
     ensures puts { Puts (reply_text (reply_of (Ok reply))) out.old 0 out.new result }
     ensures reply_len_bound { length (reply_text (reply_of (Ok reply))) ≤ 4096 }
@@ -79,9 +77,9 @@ fn put_accepted(out: &mut [u8], reply: Reply) -> usize
         } => put_started(out, handle, killed.unwrap_or(0), taken.unwrap_or(0)),
         Reply::Silent(handle) => put_one(out, b"(silent ", handle),
         Reply::Kept(handle) => put_one(out, b"(kept ", handle),
-        Reply::Off(found) => put_one(out, b"(off ", bit(found)),
+        Reply::Off(found) => put_one(out, b"(off ", u64::from(found)),
         Reply::Done => text::put_literal(out, 0, b"(done)\n"),
-        Reply::Released(found) => put_one(out, b"(released ", bit(found)),
+        Reply::Released(found) => put_one(out, b"(released ", u64::from(found)),
         Reply::Planned => text::put_literal(out, 0, b"(done)\n"),
     }
 }
@@ -114,32 +112,33 @@ fn put_row(out: &mut [u8], at: usize, v: Voice) -> usize
     let note = v.note;
     let a = put_decimal(out, at, b" (", v.handle);
     let b = put_decimal(out, a, b" ", note.0 as u64);
-    let c = put_decimal(out, b, b" ", bit(v.releasing));
-    let d = put_decimal(out, c, b" ", bit(v.sustained));
+    let c = put_decimal(out, b, b" ", u64::from(v.releasing));
+    let d = put_decimal(out, c, b" ", u64::from(v.sustained));
     let e = put_word(out, d, b" ", float32::to_bits(env.level));
     text::put_literal(out, e, b")")
 }
 
-fn put_rows(vs: [Voice; 64], n: usize, out: &mut [u8]) -> usize
-    ensures puts { Puts (rows_text (voices_of (seen_first n vs))) out.old 0 out.new result }
-    ensures vs_len_bound { length (rows_text (voices_of (seen_first n vs))) ≤ 3655 }
+fn put_rows(table: Table, out: &mut [u8]) -> usize
+    ensures puts { Puts (rows_text (voices_in table)) out.old 0 out.new result }
+    ensures len_bound { length (rows_text (voices_in table)) ≤ 3655 }
 {
-    let seen = &vs[..n.min(64)];
+    let live = &table.voices[..table.count.min(64)];
     let mut next = text::put_literal(out, 0, b"(voices");
-    for v in seen {
+    for v in live {
         next = put_row(out, next, *v);
     }
     next
 }
 
-fn put_table(vs: [Voice; 64], n: usize, out: &mut [u8]) -> usize
-    ensures puts { Puts (table_text (voices_of (seen_first n vs))) out.old 0 out.new result }
-    ensures vs_len_bound { length (table_text (voices_of (seen_first n vs))) ≤ 4096 }
+fn put_table(table: Table, out: &mut [u8]) -> usize
+    ensures puts { Puts (table_text (voices_in table)) out.old 0 out.new result }
+    ensures len_bound { length (table_text (voices_in table)) ≤ 4096 }
 {
-    let next = put_rows(vs, n, out);
+    let next = put_rows(table, out);
     text::put_literal(out, next, b")\n")
 }
 
+#[tactic(auto, using(crate::proofs::Prints::puts, crate::proofs::Prints::printed))]
 fn unread(s: Session, out: &mut [u8]) -> Said
     requires { 4096 ≤ length out.old }
     ensures { Stays s unread_text out.old out.new result }
@@ -148,6 +147,7 @@ fn unread(s: Session, out: &mut [u8]) -> Said
     Said { session: s, count }
 }
 
+#[tactic(auto, using(crate::proofs::Prints::printed, crate::proofs::Turns::design_second, crate::proofs::Turns::design_refused, crate::proofs::Turns::design_ready))]
 fn design_line(s: Session, f: DesignForm, out: &mut [u8]) -> Said
     requires { 4096 ≤ length out.old }
     ensures { DesignDoes s (design_of f) out.old out.new result }
@@ -166,6 +166,7 @@ fn design_line(s: Session, f: DesignForm, out: &mut [u8]) -> Said
     }
 }
 
+#[tactic(auto, using(crate::proofs::Prints::printed, crate::proofs::Turns::on_first, crate::proofs::Turns::on_calls))]
 fn on_line(s: Session, f: OnForm, out: &mut [u8]) -> Said
     requires { 4096 ≤ length out.old }
     ensures { OnDoes s (call_of f) out.old out.new result }
@@ -181,6 +182,7 @@ fn on_line(s: Session, f: OnForm, out: &mut [u8]) -> Said
     }
 }
 
+#[tactic(auto, using(crate::proofs::Prints::printed, crate::proofs::Turns::voices_first, crate::proofs::Turns::voices_table))]
 fn voices_line(s: Session, out: &mut [u8]) -> Said
     requires { 4096 ≤ length out.old }
     ensures { VoicesDoes s out.old out.new result }
@@ -188,9 +190,7 @@ fn voices_line(s: Session, out: &mut [u8]) -> Said
     let Some(state) = s else {
         return unread(s, out);
     };
-    let table = state.table;
-    let vs = table.voices;
-    let count = put_table(vs, table.count, out);
+    let count = put_table(state.table, out);
     Said { session: s, count }
 }
 
@@ -202,6 +202,7 @@ pub fn start() -> Session
 }
 
 // Answers one line, without its line feed, into a buffer of at least 4,096 bytes.
+#[tactic(auto, using(crate::proofs::Turns::line_small, crate::proofs::Turns::line_does))]
 pub fn line(s: Session, line: &[u8], out: &mut [u8]) -> Said
     ensures { LineAs s line.now out.old out.new result }
 {

@@ -7,7 +7,6 @@ use lines::Line;
 use patterns::Page;
 use replay::Session;
 use std::io;
-use std::io::Read;
 
 fn flush(rt: &impl Print, page: &mut Page) -> io::Result<()> {
     rt.write_all(page.text())?;
@@ -31,11 +30,9 @@ fn answer(
     flush(rt, page)
 }
 
-// A proved loop has to end, and nothing says that the input does: it counts up to what no run reaches. Samples are those
-// of 64 voices of 8 copies over 1,024 frames, and one more; stereo is both sides of 1,024 frames, and one more. Of a line
-// longer than 257 bytes the first 257 are kept: it is too long already.
+// Samples are those of 64 voices of 8 copies over 1,024 frames, and one more; stereo is both sides of 1,024 frames, and
+// one more. Of a line longer than 257 bytes the first 257 are kept: it is too long already.
 fn main(rt: HostRuntime) -> io::Result<()> {
-    let mut stdin = rt.stdin();
     let mut input = [0; 65536];
     let mut out = [0; 65536];
     let mut samples = [0.0; 524_289];
@@ -43,12 +40,8 @@ fn main(rt: HostRuntime) -> io::Result<()> {
     let mut session = Session::new();
     let mut line = Line::<257>::new();
     let mut page = Page::new(&mut out);
-    for _ in 0..u64::MAX {
-        let count = stdin.read(&mut input)?;
-        if count == 0 {
-            break;
-        }
-        line.take(&input[..count], |text| {
+    lines::blocks(&mut rt.stdin(), &mut input, |block| {
+        line.take(block, |text| {
             answer(
                 &rt,
                 &mut session,
@@ -58,8 +51,8 @@ fn main(rt: HostRuntime) -> io::Result<()> {
                 &mut page,
             )
         })?;
-        flush(&rt, &mut page)?;
-    }
+        flush(&rt, &mut page)
+    })?;
     line.finish(|text| answer(
         &rt,
         &mut session,

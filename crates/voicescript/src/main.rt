@@ -6,7 +6,6 @@
 use lines::Line;
 use script::Session;
 use std::io;
-use std::io::Read;
 
 fn answer(rt: &impl Print, session: &mut Session, line: &[u8]) -> io::Result<()> {
     let mut out = [0; 4096];
@@ -15,19 +14,13 @@ fn answer(rt: &impl Print, session: &mut Session, line: &[u8]) -> io::Result<()>
     rt.write_all(out.get(..said.count).unwrap_or(&[]))
 }
 
-// Nothing says that the input ends, so the turns are counted. Of a line longer than 257 bytes the first 257 are kept:
-// it is too long already.
+// Of a line longer than 257 bytes the first 257 are kept: it is too long already.
 fn main(rt: HostRuntime) -> io::Result<()> {
-    let mut input = rt.stdin();
     let mut buffer = [0; 4096];
     let mut session = script::start();
     let mut line = Line::<257>::new();
-    for _ in 0..u64::MAX {
-        let count = input.read(&mut buffer)?;
-        if count == 0 {
-            break;
-        }
-        line.take(&buffer[..count], |text| answer(&rt, &mut session, text))?;
-    }
+    lines::blocks(&mut rt.stdin(), &mut buffer, |block| {
+        line.take(block, |text| answer(&rt, &mut session, text))
+    })?;
     line.finish(|text| answer(&rt, &mut session, text))
 }

@@ -3,6 +3,7 @@ use mathlib.Core.List.{flat_map}
 use native.Mathlib.Omega.{arith}
 use lib.ListN.{length, take}
 use Rattle.script.proofs.Prints.{puts, puts_none, rows_more, rows-done, rows-length-more, rows-length-done}
+use Rattle.table.proofs.Sizes.{voices-long}
 use Rattle.script.proofs.put_rows.Goals as goal
 
 -- `script::put_rows` meets its contract: the rows of the voices so far stand behind the word.
@@ -16,16 +17,16 @@ loop-v-preserved c =
     let i = c.loop-v.invariant in
     let e = c.put_row-next.ensures in
     record {
-      puts = rows_more (take c.min.result c.args.vs) c.loop-v.v-index _ _ _ _ _ _ c.loop-v-test.true i.puts e.puts;
-      short = rows-length-more (take c.min.result c.args.vs) c.loop-v.v-index c.loop-v-test.true i.short e.v_len_bound;
+      puts = rows_more (take c.min.result c.args.table.voices) c.loop-v.v-index _ _ _ _ _ _ c.loop-v-test.true i.puts e.puts;
+      short = rows-length-more (take c.min.result c.args.table.voices) c.loop-v.v-index c.loop-v-test.true i.short e.v_len_bound;
     }
 
 pub returns : goal.returns
 returns c =
-    let long : length c.args.vs ≡ 64 = c.well_formed.0.1.0.1 in
+    let long : length c.args.table.voices ≡ 64 = voices-long c.args.table c.well_formed.0 in
     let i = c.loop-v.invariant in
     let t = c.loop-v-test.false in
     record {
-      puts = rows-done c.args.vs _ c.min.result c.loop-v.v-index _ _ _ _ _ long c.min.ensures t (puts _ _ _ _ _ c.put_literal-next.ensures) i.puts;
-      vs_len_bound = rows-length-done c.args.vs _ c.min.result c.loop-v.v-index long c.min.ensures c.loop-v.auto.v-index-end t i.short;
+      puts = rows-done c.args.table.voices _ c.min.result c.loop-v.v-index _ _ _ _ _ long c.min.ensures t (puts _ _ _ _ _ c.put_literal-next.ensures) i.puts;
+      len_bound = rows-length-done c.args.table.voices _ c.min.result c.loop-v.v-index long c.min.ensures c.loop-v.auto.v-index-end t i.short;
     }

@@ -7,6 +7,6 @@ use Rattle.script.proofs.put_rows.Given as goal
 
 abbrev pub invariant-loop-v : goal.invariant-loop-v
 invariant-loop-v l = record {
-  puts : Puts (flat_map row (take l.v-index l.seen)) l.initial.out l.initial.next l.out l.next;
-  short : length (flat_map row (take l.v-index l.seen)) ≤ 57 * l.v-index;
+  puts : Puts (flat_map row (take l.v-index l.live)) l.initial.out l.initial.next l.out l.next;
+  short : length (flat_map row (take l.v-index l.live)) ≤ 57 * l.v-index;
 }

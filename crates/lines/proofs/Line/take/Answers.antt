@@ -4,7 +4,8 @@ use Rattle.std.proofs.lemmas.List.Sums.{fold_more}
 use Rattle.std.specs.Fn.{Called, CalledAt}
 use Rattle.std.specs.List.{fold}
 use Rattle.lines.specs.Lines.{after}
-use Rattle.lines.proofs.Lines.{after-feed, after-other, FoldsTo-more}
+use Rattle.std.proofs.lemmas.Fn.{FoldsTo-push}
+use Rattle.lines.proofs.Lines.{after-feed, after-other}
 use Rattle.lines.proofs.Line.take.Goals as goal
 use Rattle.lines.proofs.Line.take.Goals.{then-byte-eq10+in_ok-each, else-byte-eq10}
 
@@ -25,7 +26,7 @@ loop-byte-preserved g c =
           } in (
             search of_calls,
             w.self-is ∙ w.clear.ensures ∙ sym (ap (λ s. s.1) next),
-            rw (next, w.each-is) (FoldsTo-more _ _ _ _ _ _ c.loop-byte.invariant.2 called),
+            rw (next, w.each-is) (FoldsTo-push _ _ _ _ _ _ c.loop-byte.invariant.2 called),
           )
       | else-byte-eq10 w ↦
           let next = more ∙ after-other g.row.N before byte (search rules) in (
