@@ -1,10 +1,15 @@
+use mathlib.Core.Path.{◌∙◌}
 use native.Mathlib.Omega.{arith}
 use Prim.Native.Nat.{◌*◌, ◌<◌}
 use lib.ListN.{length}
+use lib.Seq.{take_all}
 use Rattle.std.proofs.lemmas.List.{take_rest}
 use Rattle.model.specs.Mix.{on_left, on_right}
 use Rattle.render.proofs.Turns.{one-turn}
 use Rattle.render.proofs.add_few.Goals as goal
+
+pub returns-in-Some : goal.returns-in-Some
+returns-in-Some c = rw (c.in-Some.ensures.cases.same ∙ take_all 4 c.args.copies.now (omega (arith, c.requires.0))) at c.add_together.ensures
 
 pub loop-i-preserved : goal.loop-i-preserved
 loop-i-preserved c =
