@@ -7,8 +7,8 @@ use native.Mathlib.Numerals.{add-one}
 use native.Mathlib.Omega.{arith}
 use lib.Ieee.{Float, nan, binary32, add, mul}
 use lib.ListN.{length, take, drop, get_or, set, length-set, length-take, length-drop, take-append-drop}
-use lib.Seq.{get_or-drop, set-get_or, drop-drop, take-suc-set}
-use Rattle.std.proofs.lemmas.List.{drop_all}
+use lib.Seq.{take_all, get_or-drop, set-get_or, drop-drop, take-suc-set}
+use Rattle.std.proofs.lemmas.List.{drop_all, take_rest}
 use Rattle.lists.specs.Parts.{part-size}
 use Rattle.lists.specs.Prefix.{take_more, take_min, drop_more, fold}
 use Rattle.stream.specs.declared.UnisonCopy.{UnisonCopy}
@@ -54,20 +54,21 @@ place-after n i = rw (add-one, mul-suc)
 
 module _ (side : UnisonCopy → Float) (n : ℕ) where
   -- one copy more
-  pub frame-turn : (i : ℕ) (e s w : Float) (xs : List Float) (cs : List UnisonCopy) → i < length cs
-      → framed side n e (drop (n * i) xs) (drop i cs) s ≡ w
-      → framed side n e (drop (n * (i + 1)) xs) (drop (i + 1) cs) (add binary32 s (mul binary32 (mul binary32 (get_or xs (n * i) nan) e) (side (get_or cs i no_copy)))) ≡ w
+  pub framed_more : (i : ℕ) (e s : Float) (xs : List Float) (cs : List UnisonCopy) → i < length cs
+      → framed side n e (drop (n * i) xs) (drop i cs) s
+      ≡ framed side n e (drop (n * (i + 1)) xs) (drop (i + 1) cs) (add binary32 s (mul binary32 (mul binary32 (get_or xs (n * i) nan) e) (side (get_or cs i no_copy))))
   unfolding framed
-  frame-turn i e s w xs cs h p =
+  framed_more i e s xs cs h =
       let z : n * i + 0 ≡ n * i = omega arith in
+      let x : get_or (drop (n * i) xs) 0 nan ≡ get_or xs (n * i) nan = rw z at (get_or-drop (n * i) xs 0 nan) in
       let c = get_or cs i no_copy in
-      let q : framed side n e (drop n (drop (n * i) xs)) (drop (i + 1) cs) (add binary32 s (mul binary32 (mul binary32 (get_or (drop (n * i) xs) 0 nan) e) (side c))) ≡ w =
-      rw (drop_more cs i no_copy h) at p in
-      rw place-after (rw (get_or-drop (n * i) xs 0 nan, z, drop-drop n (n * i) xs) at q)
+      let step : framed side n e (drop (n * i) xs) (c ∷ drop (i + 1) cs) s
+      ≡ framed side n e (drop n (drop (n * i) xs)) (drop (i + 1) cs) (add binary32 s (mul binary32 (mul binary32 (get_or (drop (n * i) xs) 0 nan) e) (side c))) = refl in
+      rw (drop_more cs i no_copy h, place-after) (rw (x, drop-drop n (n * i) xs) at step)
 
-  pub frame-end : (i : ℕ) (e s w : Float) (xs : List Float) (cs : List UnisonCopy) → length cs ≤ i → framed side n e xs (drop i cs) s ≡ w → s ≡ w
+  pub framed_all : (i : ℕ) (e s : Float) (xs : List Float) (cs : List UnisonCopy) → length cs ≤ i → framed side n e xs (drop i cs) s ≡ s
   unfolding framed
-  frame-end i e s w xs cs h p = rw (drop_all i cs h) at p
+  framed_all i e s xs cs h = rw (drop_all i cs h)
 
 module _ (side : UnisonCopy → Float) (n : ℕ) (es : List Float) where
   abbrev Summed : ℕ → List Float → List UnisonCopy → List Float → List Float
@@ -129,15 +130,14 @@ module _ (side : UnisonCopy → Float) (n m : ℕ) (es : List Float) where
       let s : ys ≡ (fold (part_copy side n m es) (mixing xs o) part).samples = q ∙ sym (rw l at (used (mixing xs o) part)) in
       rw (e, fold-both (mixing xs o) part rest, s, p)
 
-  -- one copy is done
-  pub one-turn : (j : ℕ) (xs o w t : List Float) (cs : List UnisonCopy) → j < length cs
-      → w ≡ (fold (part_copy side n m es) (mixing (drop (n * j) xs) o) (get_or cs j no_copy ∷ [])).sums
-      → (fold (part_copy side n m es) (mixing (drop (n * j) xs) o) (drop j cs)).sums ≡ t
-      → (fold (part_copy side n m es) (mixing (drop (n * (j + 1)) xs) w) (drop (j + 1) cs)).sums ≡ t
-  one-turn j xs o w t cs h p q =
+  -- one copy more
+  pub copies_more : (j : ℕ) (xs o : List Float) (cs : List UnisonCopy) → j < length cs
+      → (fold (part_copy side n m es) (mixing (drop (n * j) xs) o) (drop j cs)).sums
+      ≡ (fold (part_copy side n m es) (mixing (drop (n * (j + 1)) xs) (part_copy side n m es (mixing (drop (n * j) xs) o) (get_or cs j no_copy)).sums) (drop (j + 1) cs)).sums
+  copies_more j xs o cs h =
       let all : n * j + n * 1 ≡ n * (j + 1) = omega arith in
       let behind : drop (n * (j + 1)) xs ≡ drop (n * 1) (drop (n * j) xs) = sym (rw all at (drop-drop (n * 1) (n * j) xs)) in
-      copies-turn 1 (drop (n * j) xs) o w _ (get_or cs j no_copy ∷ []) (drop (j + 1) cs) (drop j cs) (drop_more cs j no_copy h) refl behind p ∙ q
+      sym (copies-turn 1 (drop (n * j) xs) o _ _ (get_or cs j no_copy ∷ []) (drop (j + 1) cs) (drop j cs) (drop_more cs j no_copy h) refl behind refl)
 
   -- the copies from j up to e are done
   pub few-turn : (at j e : ℕ) (xs o w t : List Float) (cs : List UnisonCopy) → j ≤ e → e ≤ length cs
@@ -178,10 +178,21 @@ two-more out k x y h =
     let m : k < length out = omega arith in
     rw (e, take-suc-set (set out k x) (k + 1) y l, add-one k, take-suc-set out k x m, append_assoc)
 
-pub put-more : (out ls rs : List Float) (p f : ℕ) → p ≡ f + f → p + 1 < length out → f < length ls → f < length rs
+pub put_more : (out ls rs : List Float) (p f : ℕ) → p ≡ f + f → p + 1 < length out → f < length ls → f < length rs
     → take (f + f) out ≡ interleave (take f ls) (take f rs)
     → take (f + 1 + (f + 1)) (set (set out p (get_or ls f nan)) (p + 1) (get_or rs f nan)) ≡ interleave (take (f + 1) ls) (take (f + 1) rs)
-put-more out ls rs p f e h hl hr s =
+put_more out ls rs p f e h hl hr s =
     let two : f + 1 + (f + 1) ≡ p + 2 = omega arith in
     let t = rw (← e) at s in
     rw (two, two-more out p (get_or ls f nan) (get_or rs f nan) h, inter-more ls rs f hl hr, t)
+
+-- four of at most four
+pub take_four : (cs : List UnisonCopy) → length cs ≤ 4 → take 4 cs ≡ cs
+take_four cs h = take_all 4 cs h
+
+-- for tactics
+pub ruleset frame_turns = (framed_more, framed_all, mul-zero)
+
+pub ruleset part_turns = (frames_none, frame_more, take_rest)
+
+pub ruleset copy_turns = (copies_more, take_rest)

@@ -23,6 +23,7 @@ struct Sums {
 }
 
 // One frame of the copies: their samples stand n places apart, the first one's first.
+#[tactic(auto, using(crate::proofs::Turns::frame_turns))]
 fn add_frame<const K: usize>(
     copies: &[UnisonCopy; K],
     samples: &[f32],
@@ -46,6 +47,7 @@ fn add_frame<const K: usize>(
 
 // Copies go into a part in one pass, on both sides. By value: behind a reference each frame reads the gains anew, which
 // costs a tenth of the pass. The sums by index: of what goes through a zip of `iter_mut` a proof knows nothing.
+#[tactic(auto, using(crate::proofs::Turns::part_turns))]
 fn add_together<const K: usize>(
     copies: [UnisonCopy; K],
     samples: &[f32],
@@ -69,6 +71,7 @@ fn add_together<const K: usize>(
 }
 
 // Up to four copies go into a part: four in one pass, fewer one by one.
+#[tactic(auto, using(crate::proofs::Turns::take_four))]
 fn add_few(
     copies: &[UnisonCopy],
     samples: &[f32],
@@ -84,6 +87,7 @@ fn add_few(
         add_together(*four, samples, n, levels, left, right);
         return;
     }
+    #[tactic(auto, using(crate::proofs::Turns::copy_turns))]
     for (i, copy) in copies.iter().enumerate() {
         add_together([*copy], &samples[n * i..], n, levels, left, right);
     }
@@ -182,6 +186,7 @@ pub fn with_env(mut v: Voice, env: EnvGen) -> Voice
 }
 
 // The sums of each side, left before right. By index: of what goes through `chunks_exact_mut` a proof knows nothing.
+#[tactic(auto, using(crate::proofs::Turns::put_more))]
 fn put_pairs(left: &[f32], right: &[f32], out: &mut [f32])
     requires { (length right.now ≡ length left.now) × (2 * length left.now ≡ length out.old) }
     ensures { out.new ≡ interleave left.now right.now }
