@@ -66,6 +66,7 @@ fn glide_one(c: UnisonCopy, out: &mut [f32]) -> UnisonCopy
 }
 
 // One sample of each copy; their numbers stand n places apart.
+#[tactic(auto, using(crate::proofs::Rows::copy_more, crate::proofs::Rows::number_more), unfolding(crate::specs::Glides::column))]
 fn step_four(copies: &mut [UnisonCopy; 4], n: usize, curve: &mut [f32])
     requires { n * 3 < length curve.old }
     ensures { (copies.new ≡ map stepped copies.old) × (curve.new ≡ column n 0 (map heard_of copies.new) curve.old) }
