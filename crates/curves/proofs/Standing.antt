@@ -2,7 +2,8 @@
 use mathlib.Core.Path.{◌≡◌, refl, ap, sym, ◌∙◌}
 use mathlib.Core.Bool.{Bool, true, false, false≢true}
 use mathlib.Core.List.{List, [], ◌∷◌, ◌++◌, map, flat_map}
-use Prim.Native.Nat.{ℕ, zero, suc, ◌+◌, ◌≤◌, ◌<◌, min}
+use Prim.Native.Nat.{ℕ, zero, suc, ◌+◌, ◌-◌, ◌*◌, ◌≤◌, ◌<◌, min}
+use native.Mathlib.Nat.{mul-le-mul_left}
 use native.Mathlib.Omega.{arith}
 use lib.Ieee.{Float}
 use lib.ListN.{length, take, drop, get_or, replicate, length-take, length-replicate}
@@ -18,7 +19,7 @@ use Rattle.voice.specs.View.{Seen, shown, seen, no_copy}
 use Rattle.voice.specs.Changes.{on_seen}
 use Rattle.curves.specs.Glides.{flat, GlidedVoice, StandsAs, StandingCurve}
 use Rattle.curves.proofs.Glides.{wider}
-use Rattle.curves.proofs.Holds.{stays, stays-glided, stays-flat}
+use Rattle.curves.proofs.Holds.{stays-flat, steady_glided}
 
 -- the next sample leaves the pitch where it is, or moves it
 abbrev pub Still : UnisonCopy → Type 0
@@ -34,7 +35,7 @@ moving c h e = absurd (false≢true (h e))
 -- copies that all stand
 stand-glided : (n : ℕ) (cs : List UnisonCopy) → All Still cs → map (glided n) cs ≡ cs
 stand-glided n [] h = refl
-stand-glided n (c ∷ cs) h = rw (stays-glided n c (stays c (h 0 c (omega arith))), stand-glided n cs (λ k d l. h (suc k) d (omega arith)))
+stand-glided n (c ∷ cs) h = rw (steady_glided n c (h 0 c (omega arith)), stand-glided n cs (λ k d l. h (suc k) d (omega arith)))
 
 -- where no copy moves in one sample, none would
 pub stood : (xs : List UnisonCopy) (j : ℕ) (d : UnisonCopy) → j < length xs → map (glided 1) xs ≡ xs → glide_step (get_or xs j d) ≡ (get_or xs j d).pitch
@@ -88,16 +89,19 @@ pub stands-by : (v : Voice) (cs : List UnisonCopy) (r : Bool) → cs ≡ (shown 
 stands-by v cs true e m = all-stand v (rw e at (λ (n : ℕ). stand-glided n cs (λ k d h. m k d (omega arith) h)))
 stands-by v cs false e m = one-moves v (rw e at (λ (h : map (glided 1) cs ≡ cs). m.2 no_copy (stood cs m.0 no_copy m.1 h)))
 
--- the part of one copy, as the code fills it
-pub flat-writes : (at k frames : ℕ) (xs ys : List Float) (x : Float) (cs : List UnisonCopy) (j : ℕ) (d : UnisonCopy)
-    → k ≡ frames → at + frames ≤ length xs → j < length cs → x ≡ heard (get_or cs j d) → take at xs ≡ flat_map (flat frames) (take j cs)
-    → ys ≡ replicate (length (take k (drop at xs))) x
-    → take (at + frames) (take at xs ++ (ys ++ drop k (drop at xs))) ≡ flat_map (flat frames) (take (j + 1) cs)
-flat-writes at k frames xs ys x cs j d e h room here done w =
-    let size : length (take k (drop at xs)) ≡ frames = rw e (part-size at frames xs h) in
-    let c = get_or cs j d in
-    let full : ys ≡ flat frames c = rw (size, here) at w in
-    wider at k frames xs ys (flat frames c) e h full (length-replicate frames (heard c)) ∙ rw done (sym (flat-more (flat frames) cs j d room))
+-- one copy more has filled its part, as the code does
+pub flat-writes : (n j : ℕ) (out ys : List Float) (x : Float) (cs : List UnisonCopy) → n * length cs ≡ length out → j < length cs
+    → x ≡ heard (get_or cs j no_copy) → take (n * j) out ≡ flat_map (flat n) (take j cs)
+    → ys ≡ replicate (length (take (n * (j + 1) - n * j) (drop (n * j) out))) x
+    → take (n * (j + 1)) (take (n * j) out ++ (ys ++ drop (n * (j + 1) - n * j) (drop (n * j) out))) ≡ flat_map (flat n) (take (j + 1) cs)
+flat-writes n j out ys x cs fits h here done w =
+    let next : n * (j + 1) ≡ n * j + n = omega arith in
+    let k : n * (j + 1) - n * j ≡ n = omega (arith, next) in
+    let room : n * j + n ≤ length out = omega (arith, mul-le-mul_left n h, next) in
+    let size : length (take n (drop (n * j) out)) ≡ n = part-size (n * j) n out room in
+    let c = get_or cs j no_copy in
+    let full : ys ≡ flat n c = rw (k, size, here) at w in
+    rw (k, next) (wider (n * j) n n out ys (flat n c) refl room full (length-replicate n (heard c)) ∙ rw done (sym (flat-more (flat n) cs j no_copy h)))
 
 -- the voice that stands has glided: Plan need not put it back
 pub stands-glides : (frames : ℕ) (v : Voice) (r : Bool) (old new : List Float) → StandsAs v r → r ≡ true → StandingCurve frames v old new

@@ -11,6 +11,7 @@ use stream::UnisonCopy;
 use voice::Voice;
 
 // The pitch one sample later.
+#[tactic(auto, unfolding(stream::specs::Pitch::glide_step))]
 fn next_pitch(c: UnisonCopy) -> f32
     ensures { result ≡ glide_step c }
 {
@@ -18,6 +19,7 @@ fn next_pitch(c: UnisonCopy) -> f32
 }
 
 // The copy one sample later.
+#[tactic(auto, unfolding(stream::specs::Pitch::stepped, stream::specs::Pitch::pitched))]
 fn step(mut c: UnisonCopy) -> UnisonCopy
     ensures { result ≡ stepped c }
 {
@@ -26,6 +28,7 @@ fn step(mut c: UnisonCopy) -> UnisonCopy
 }
 
 // The pitch that its oscillators then see.
+#[tactic(auto, unfolding(stream::specs::Pitch::heard))]
 fn heard(c: UnisonCopy) -> f32
     ensures { result ≡ heard_of c }
 {
@@ -51,6 +54,7 @@ fn hold(x: f32, out: &mut [f32])
 }
 
 // The copy's own glide, without the sums where they change nothing: most copies stand at their target.
+#[tactic(auto, using(crate::proofs::Holds::steady_glided, crate::proofs::Holds::steady_flat))]
 fn glide_one(c: UnisonCopy, out: &mut [f32]) -> UnisonCopy
     ensures { GlidedOver c out.old out.new result }
 {
@@ -61,16 +65,15 @@ fn glide_one(c: UnisonCopy, out: &mut [f32]) -> UnisonCopy
     c.glide_block(out)
 }
 
-// One sample of each copy; their numbers stand n places apart, the first at `at`.
-fn step_four(copies: &mut [UnisonCopy; 4], n: usize, at: usize, curve: &mut [f32])
-    requires { at + n * 3 < length curve.old }
-    ensures { (copies.new ≡ map stepped copies.old) × (curve.new ≡ column n at (map heard_of copies.new) curve.old) }
+// One sample of each copy; their numbers stand n places apart.
+#[tactic(auto, using(crate::proofs::Rows::copy_more, crate::proofs::Rows::number_more), unfolding(crate::specs::Glides::column))]
+fn step_four(copies: &mut [UnisonCopy; 4], n: usize, curve: &mut [f32])
+    requires { n * 3 < length curve.old }
+    ensures { (copies.new ≡ map stepped copies.old) × (curve.new ≡ column n 0 (map heard_of copies.new) curve.old) }
 {
-    let mut place = at;
-    for copy in copies.iter_mut() {
+    for (k, copy) in copies.iter_mut().enumerate() {
         *copy = step(*copy);
-        curve[place] = heard(*copy);
-        place += n;
+        curve[n * k] = heard(*copy);
     }
 }
 
@@ -80,12 +83,12 @@ fn glide_four(mut copies: [UnisonCopy; 4], n: usize, curve: &mut [f32]) -> [Unis
     ensures { GlidedCopies n copies result curve.new }
 {
     for i in 0..n {
-        step_four(&mut copies, n, i, curve);
+        step_four(&mut copies, n, &mut curve[i..]);
     }
     copies
 }
 
-// The first four copies, to go side by side: none where fewer are left, or where the first one's pitch stands.
+// Four copies, to go side by side: none where they are fewer, or where the first one's pitch stands.
 fn first_four(copies: &[UnisonCopy]) -> Option<[UnisonCopy; 4]>
     ensures { IfSome result (λ four. (4 ≤ length copies.now) × (four ≡ take 4 copies.now)) }
 {
@@ -93,26 +96,34 @@ fn first_four(copies: &[UnisonCopy]) -> Option<[UnisonCopy; 4]>
     if steady(four[0]) { None } else { Some(*four) }
 }
 
+// Up to four copies fill their part of the curve, side by side or one after the other.
+fn glide_few(copies: &mut [UnisonCopy], frames: usize, curve: &mut [f32])
+    requires { (length copies.old ≤ 4) × (frames * length copies.old ≡ length curve.old) }
+    ensures { GlidedCopies frames copies.old copies.new curve.new }
+{
+    if let Some(four) = first_four(copies) {
+        copies.copy_from_slice(&glide_four(four, frames, curve));
+        return;
+    }
+    // By index: of what goes through a zip of `iter_mut` a proof knows nothing.
+    for i in 0..copies.len() {
+        copies[i] = glide_one(copies[i], &mut curve[frames * i..frames * (i + 1)]);
+    }
+}
+
 // Each copy fills its part of the curve with its pitch numbers.
 fn glide_copies(copies: &mut [UnisonCopy], frames: usize, curve: &mut [f32])
     requires { frames * length copies.old ≡ length curve.old }
     ensures { GlidedCopies frames copies.old copies.new curve.new }
 {
-    let mut at: usize = 0;
-    let mut j: usize = 0;
-    while j < copies.len() {
-        if let Some(four) = first_four(&copies[j..]) {
-            let end = at + frames * 4;
-            let next = glide_four(four, frames, &mut curve[at..end]);
-            copies[j..j + 4].copy_from_slice(&next);
-            at = end;
-            j += 4;
-        } else {
-            let end = at + frames;
-            copies[j] = glide_one(copies[j], &mut curve[at..end]);
-            at = end;
-            j += 1;
-        }
+    let n = copies.len();
+    for i in (0..n).step_by(4) {
+        let end = n.min(i + 4);
+        glide_few(
+            &mut copies[i..end],
+            frames,
+            &mut curve[frames * i..frames * end],
+        );
     }
 }
 
@@ -147,10 +158,8 @@ pub fn write_standing(v: Voice, frames: usize, curve: &mut [f32])
     if !fills(frames, n, curve.len()) {
         return;
     }
-    let mut at: usize = 0;
-    for copy in &v.copies[..n] {
-        let end = at + frames;
-        hold(heard(*copy), &mut curve[at..end]);
-        at = end;
+    // The parts by index: of what goes through `chunks_exact_mut` a proof knows nothing.
+    for (i, copy) in v.copies[..n].iter().enumerate() {
+        hold(heard(*copy), &mut curve[frames * i..frames * (i + 1)]);
     }
 }

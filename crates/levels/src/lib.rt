@@ -69,6 +69,7 @@ fn walk<N: Fn(f32) -> f32, E: Fn(f32) -> bool>(
 
 // By the same change in each frame, for `height` in `time` seconds. No run where the time is not above 0: the next tick
 // leaves the stage.
+#[tactic(auto, unfolding(crate::specs::Runs::Steps, crate::specs::Runs::in_stage, envelope::specs::Gates::at, model::specs::Voices::aged, model::specs::Mix::levels))]
 fn slope<N: Fn(f32, f32) -> f32, E: Fn(f32) -> bool>(
     e: EnvGen,
     height: f32,
@@ -93,6 +94,7 @@ fn slope<N: Fn(f32, f32) -> f32, E: Fn(f32) -> bool>(
 }
 
 // The run of the stage that the envelope is in.
+#[tactic(auto, using(crate::proofs::Slopes::idle_step, crate::proofs::Slopes::attack_step, crate::proofs::Slopes::decay_step, crate::proofs::Slopes::sustain_step, crate::proofs::Slopes::release_step), unfolding(crate::specs::Runs::Steps))]
 fn run_stage(e: EnvGen, by: Loudness, frames: &mut [f32]) -> Run
     ensures { RunAs e by frames.old frames.new result }
 {
@@ -116,6 +118,7 @@ pub fn fill(e: EnvGen, gain: f32, trem: f32, m: usize) -> Filled
     let mut levels = [0.0f32; 64];
     let mut env = e;
     let mut f: usize = 0;
+    // No `for`: a turn goes on by as many frames as its run filled.
     while f < n {
         let run = run_stage(env, by, &mut levels[f..n]);
         env.level = run.level;

@@ -1,7 +1,7 @@
 -- A voice goes through a block in parts: the parts make the whole. And the first frames of a mix that has places for more.
 use mathlib.Core.Path.{◌≡◌, refl, ap, sym, ◌∙◌}
 use mathlib.Core.List.{List, [], ◌∷◌, ◌++◌}
-use Prim.Native.Nat.{ℕ, zero, suc, ◌+◌, ◌-◌, ◌*◌, ◌≤◌}
+use Prim.Native.Nat.{ℕ, zero, suc, ◌+◌, ◌-◌, ◌*◌, ◌≤◌, min}
 use native.Mathlib.Nat.{mul-zero, mul-suc}
 use native.Mathlib.Omega.{arith}
 use lib.Ieee.{Float, binary32, add, mul}
@@ -15,8 +15,14 @@ use Rattle.envelope.specs.Ticks.{ticked}
 use Rattle.stream.specs.declared.UnisonCopy.{UnisonCopy}
 use Rattle.model.specs.Types as model
 use Rattle.model.specs.Voices.{aged}
-use Rattle.model.specs.Mix.{levels, add_side, Mixing, mixing, side_copy, side_voice, side_mix}
-use Rattle.render.specs.Parts.{part_copy}
+use Rattle.model.specs.Mix.{levels, add_side, Mixing, mixing, side_copy, side_voice, side_mix, on_left, on_right}
+use Rattle.levels.specs.declared.Filled.{Filled}
+use Rattle.levels.specs.Filled.{FilledAs}
+use Rattle.levels.proofs.Frames.{aged-add}
+use Rattle.voice.specs.declared.Voice.{Voice}
+use Rattle.voice.specs.View.{shown}
+use Rattle.render.proofs.Turns.{copies-shown}
+use Rattle.render.specs.Parts.{part_copy, SidesFit, BothSides}
 
 -- ---- one side of one copy
 
@@ -71,20 +77,23 @@ module _ (gain trem : Float) where
 
 -- the frames from a on of a side under way
 abbrev cut : ℕ → ℕ → Mixing → Mixing
-cut a m z = mixing z.samples (take m (drop a z.sums))
+cut a m z = mixing (drop a z.samples) (take m (drop a z.sums))
+
+drop-swap : (a b : ℕ) (xs : List Float) → drop a (drop b xs) ≡ drop b (drop a xs)
+drop-swap a b xs = let e : a + b ≡ b + a = omega arith in rw (drop-drop a b xs, drop-drop b a xs, e)
 
 module _ (side : UnisonCopy → Float) (n a m : ℕ) (h : a + m ≤ n) where
-  copy-part : (es : List Float) (z : Mixing) (c : UnisonCopy) → cut a m (side_copy side n es z c) ≡ part_copy side n a m (take m (drop a es)) (cut a m z) c
+  copy-part : (es : List Float) (z : Mixing) (c : UnisonCopy) → cut a m (side_copy side n es z c) ≡ part_copy side n m (take m (drop a es)) (cut a m z) c
   unfolding side_copy part_copy
-  copy-part es z c = rw (drop-side (side c) a, take-side (side c) m, part-take a m n z.samples h)
+  copy-part es z c = rw (drop-swap a n z.samples, drop-side (side c) a, take-side (side c) m, part-take a m n z.samples h)
 
   voice-part : (trem : Float) (z : Mixing) (v : model.Voice)
-      → take m (drop a (side_voice side n trem z v).sums) ≡ (fold (part_copy side n a m (levels v.gain trem m (aged a v.env))) (cut a m z) v.copies).sums
+      → take m (drop a (side_voice side n trem z v).sums) ≡ (fold (part_copy side n m (levels v.gain trem m (aged a v.env))) (cut a m z) v.copies).sums
   unfolding side_voice
   voice-part trem z v =
       let es = levels v.gain trem n v.env in
-      ap (λ (y : Mixing). y.sums) (fold-see (cut a m) (side_copy side n es) (part_copy side n a m (take m (drop a es))) (copy-part es) z v.copies)
-      ∙ ap (λ (l : List Float). (fold (part_copy side n a m l) (cut a m z) v.copies).sums) (levels-part v.gain trem a m n v.env h)
+      ap (λ (y : Mixing). y.sums) (fold-see (cut a m) (side_copy side n es) (part_copy side n m (take m (drop a es))) (copy-part es) z v.copies)
+      ∙ ap (λ (l : List Float). (fold (part_copy side n m l) (cut a m z) v.copies).sums) (levels-part v.gain trem a m n v.env h)
 
 -- ---- one side of one voice
 
@@ -105,39 +114,82 @@ pub record Added (side : UnisonCopy → Float) (n : ℕ) (trem : Float) (xs : Li
   pub size : length now ≡ length old
 
 module _ (side : UnisonCopy → Float) (n : ℕ) (trem : Float) (xs : List Float) (v : model.Voice) (old : List Float) where
-  pub added_none : Added side n trem xs v old 0 old
+  added_none : Added side n trem xs v old 0 old
   added_none = record { front = refl; back = refl; size = refl }
 
-  -- there are places for a part
-  pub added-room : (a m : ℕ) (now : List Float) → a + m ≤ n → n ≤ length old → Added side n trem xs v old a now → m ≤ length (take (a + m - a) (drop a now))
-  added-room a m now h fits d =
-      let k : a + m - a ≡ m = omega arith in
+  -- the part up to e
+  added_more : (a e : ℕ) (es now new : List Float) → a ≤ e → e ≤ n → n ≡ length old → es ≡ levels v.gain trem (e - a) (aged a v.env)
+      → new ≡ (fold (part_copy side n (e - a) es) (mixing (drop a xs) (take (e - a) (drop a now))) v.copies).sums → length new ≡ length (take (e - a) (drop a now))
+      → Added side n trem xs v old a now → Added side n trem xs v old e (take a now ++ (new ++ drop (e - a) (drop a now)))
+  added_more a e es now new before h fits l p size d =
+      let m = e - a in
+      let k : a + m ≡ e = omega arith in
       let room : a + m ≤ length now = let g = d.size in omega arith in
-      let part = part-size a m now room in
-      rw k (omega arith)
-
-  pub added_more : (a m : ℕ) (es now new : List Float) → a + m ≤ n → n ≤ length old → es ≡ levels v.gain trem m (aged a v.env)
-      → new ≡ (fold (part_copy side n a m es) (mixing xs (take (a + m - a) (drop a now))) v.copies).sums → length new ≡ length (take (a + m - a) (drop a now))
-      → Added side n trem xs v old a now → Added side n trem xs v old (a + m) (take a now ++ (new ++ drop (a + m - a) (drop a now)))
-  added_more a m es now new h fits l e size d =
-      let k : a + m - a ≡ m = omega arith in
-      let room : a + m ≤ length now = let g = d.size in omega arith in
-      let part : length (take m (drop a now)) ≡ m = part-size a m now room in
-      let many : length new ≡ m = rw k at size ∙ part in
+      let many : length new ≡ m = size ∙ part-size a m now room in
       let whole = (side_voice side n trem (mixing xs old) v).sums in
-      let here : new ≡ take m (drop a whole) = rw (k, l, d.back) at e ∙ sym (voice-part side n a m h trem (mixing xs old) v) in
-      record {
-        front = rw (k, part-front a m now new room many, d.front, here) (sym (take-add a m whole));
-        back = rw k (part-rest a m now new room many ∙ rest-on a (a + m) now old (omega arith) d.back);
-        size = rw k (part_length a m now new room many ∙ d.size);
-      }
+      let here : new ≡ take m (drop a whole) = rw (l, d.back) at p ∙ sym (voice-part side n a m (omega arith) trem (mixing xs old) v) in
+      let front : take (a + m) (take a now ++ (new ++ drop m (drop a now))) ≡ take (a + m) whole =
+      rw (part-front a m now new room many, d.front, here) (sym (take-add a m whole)) in
+      let back : drop (a + m) (take a now ++ (new ++ drop m (drop a now))) ≡ drop (a + m) old =
+      part-rest a m now new room many ∙ rest-on a (a + m) now old (omega arith) d.back in
+      record { front = rw k at front; back = rw k at back; size = part_length a m now new room many ∙ d.size }
 
-  pub added-all : (a : ℕ) (now : List Float) → a ≡ n → Added side n trem xs v old a now → now ≡ (side_voice side n trem (mixing xs old) v).sums
+  added-all : (a : ℕ) (now : List Float) → a ≡ n → Added side n trem xs v old a now → now ≡ (side_voice side n trem (mixing xs old) v).sums
   added-all a now e d =
       let whole = (side_voice side n trem (mixing xs old) v).sums in
       let f : take n now ≡ take n whole = rw e at d.front in
       let b : drop n now ≡ drop n whole = rw e at d.back ∙ sym (voice-past side n trem (mixing xs old) v) in
       sym (take-append-drop n now) ∙ rw (f, b) (take-append-drop n whole)
+
+-- the first a frames of the voice v are added on both sides, and its envelope is behind them
+module _ (n : ℕ) (trem : Float) (xs : List Float) (v : model.Voice) (left₀ right₀ : List Float) where
+  pub record Went (a : ℕ) (e : EnvGen) (left right : List Float) : Type 0 where
+    pub env : e ≡ aged a v.env
+    pub on_left : Added on_left n trem xs v left₀ a left
+    pub on_right : Added on_right n trem xs v right₀ a right
+
+  pub went_none : Went 0 v.env left₀ right₀
+  unfolding aged
+  went_none = record { env = refl; on_left = added_none on_left n trem xs v left₀; on_right = added_none on_right n trem xs v right₀ }
+
+  -- a part more, up to frame b
+  went_more : (a b : ℕ) (e next : EnvGen) (es left right new_left new_right : List Float) → a ≤ b → b ≤ n → n ≡ length left₀ → length right₀ ≡ length left₀
+      → next ≡ aged (b - a) e → es ≡ levels v.gain trem (b - a) e → length new_left ≡ length (take (b - a) (drop a left)) → length new_right ≡ length (take (b - a) (drop a right))
+      → BothSides (λ (side : UnisonCopy → Float) sums. (fold (part_copy side n (length es) es) (mixing (drop a xs) sums) v.copies).sums) on_left on_right
+      (take (b - a) (drop a left)) (take (b - a) (drop a right)) new_left new_right
+      → Went a e left right → Went b next (take a left ++ (new_left ++ drop (b - a) (drop a left))) (take a right ++ (new_right ++ drop (b - a) (drop a right)))
+  went_more a b e next es left right new_left new_right before h fits sides p l size_left size_right added w =
+      let k : a + (b - a) ≡ b = omega arith in
+      let many : length es ≡ b - a = ap length l ∙ length-levels v.gain trem (b - a) e in
+      let sums = rw many at added in
+      let part : es ≡ levels v.gain trem (b - a) (aged a v.env) = rw w.env at l in
+      record {
+        env = p ∙ ap (aged (b - a)) w.env ∙ rw k at (sym (aged-add a (b - a) v.env));
+        on_left = added_more on_left n trem xs v left₀ a b es left new_left before h fits part sums.on_left size_left w.on_left;
+        on_right = added_more on_right n trem xs v right₀ a b es right new_right before h (fits ∙ sym sides) part sums.on_right size_right w.on_right;
+      }
+
+  pub went-all : (a : ℕ) (e : EnvGen) (left right : List Float) → a ≡ n → Went a e left right
+      → (e ≡ aged n v.env) × BothSides (λ (side : UnisonCopy → Float) sums. (side_voice side n trem (mixing xs sums) v).sums) on_left on_right left₀ right₀ left right
+  went-all a e left right all w = (
+    rw all at w.env,
+    record { on_left = added-all on_left n trem xs v left₀ a left all w.on_left; on_right = added-all on_right n trem xs v right₀ a right all w.on_right },
+  )
+
+-- as the code goes on: by the levels that `fill` gives, over the copies that count
+module _ (v : Voice) (trem : Float) (xs left₀ right₀ : List Float) where
+  pub went_on : (a b k : ℕ) (e : EnvGen) (r : Filled) (left right new_left new_right : List Float) → a ≤ b → b ≤ a + 64 → b ≤ length left₀
+      → SidesFit v xs left₀ right₀ → k ≡ length (shown v).copies → FilledAs e v.gain trem (b - a) r
+      → length new_left ≡ length (take (b - a) (drop a left)) → length new_right ≡ length (take (b - a) (drop a right))
+      → BothSides (λ (side : UnisonCopy → Float) sums. (fold (part_copy side (length left₀) (length (take (b - a) r.levels)) (take (b - a) r.levels)) (mixing (drop a xs) sums) (take k v.copies)).sums)
+      on_left on_right (take (b - a) (drop a left)) (take (b - a) (drop a right)) new_left new_right
+      → Went (length left₀) trem xs (shown v) left₀ right₀ a e left right
+      → Went (length left₀) trem xs (shown v) left₀ right₀ b r.env (take a left ++ (new_left ++ drop (b - a) (drop a left))) (take a right ++ (new_right ++ drop (b - a) (drop a right)))
+  unfolding shown
+  went_on a b k e r left right new_left new_right before short h fits counts f size_left size_right added w =
+      let m : min (b - a) 64 ≡ b - a = omega arith in
+      went_more (length left₀) trem xs (shown v) left₀ right₀ a b e r.env (take (b - a) r.levels) left right new_left new_right before h refl fits.sides
+      (rw m at f.env) (rw m at f.numbers) size_left size_right (rw (copies-shown v k counts) at added) w
 
 -- ---- the voices of a table
 
@@ -157,6 +209,14 @@ module _ (side : UnisonCopy → Float) (n : ℕ) where
   front-voice trem z v =
       let es = levels v.gain trem n v.env in
       fold-see front (side_copy side n es) (side_copy side n es) (front-copy es (length-levels v.gain trem n v.env)) z v.copies
+
+  -- the sums behind the first n are as they were
+  pub front-added : (trem : Float) (xs old new : List Float) (v : model.Voice) → new ≡ (side_voice side n trem (mixing xs (take n old)) v).sums
+      → new ++ drop n old ≡ (side_voice side n trem (mixing xs old) v).sums
+  front-added trem xs old new v e =
+      let whole = (side_voice side n trem (mixing xs old) v).sums in
+      let seen : take n whole ≡ new = ap (λ (z : Mixing). z.sums) (front-voice trem (mixing xs old) v) ∙ sym e in
+      rw (← voice-past side n trem (mixing xs old) v, ← seen) (take-append-drop n whole)
 
   -- k sums from zeros: the first n are the whole side
   pub first-sums : (k : ℕ) (trem : Float) (xs o : List Float) (vs : List model.Voice) → n ≤ k

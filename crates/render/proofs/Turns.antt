@@ -6,15 +6,16 @@ use native.Mathlib.Nat.{mul-zero, mul-suc, mul-add}
 use native.Mathlib.Numerals.{add-one}
 use native.Mathlib.Omega.{arith}
 use lib.Ieee.{Float, nan, binary32, add, mul}
-use lib.ListN.{length, take, drop, get_or, set, length-set, length-take, length-drop}
-use lib.Seq.{get_or-drop, set-get_or, drop-drop, take-suc-set}
-use Rattle.std.proofs.lemmas.List.{drop_all}
+use lib.ListN.{length, take, drop, get_or, set, length-set, length-take, length-drop, take-append-drop}
+use lib.Seq.{take_all, get_or-drop, set-get_or, drop-drop, take-suc-set}
+use Rattle.std.proofs.lemmas.List.{drop_all, take_rest}
+use Rattle.lists.specs.Parts.{part-size}
 use Rattle.lists.specs.Prefix.{take_more, take_min, drop_more, fold}
 use Rattle.stream.specs.declared.UnisonCopy.{UnisonCopy}
 use Rattle.model.specs.Mix.{add_side, Mixing, mixing, interleave}
 use Rattle.voice.specs.declared.Voice.{Voice}
 use Rattle.voice.specs.View.{shown, no_copy}
-use Rattle.render.specs.Parts.{row, part_copy, framed}
+use Rattle.render.specs.Parts.{part_copy, framed}
 use Rattle.model.proofs.Laws.{length-add}
 
 -- ---- one frame
@@ -45,37 +46,33 @@ module _ (g : Float) where
   side-beyond (x ∷ xs) (e ∷ es) [] (suc f) d = refl
   side-beyond (x ∷ xs) (e ∷ es) (c ∷ cs) (suc f) d = side-beyond xs es cs f d
 
--- the frame's sample is that of the whole list
-row_next : (g : Float) (xs es cs : List Float) (at f : ℕ) (x : Float) → at + f < length xs → f < length es → f < length cs
-    → add_side g (row at (f + 1) xs) es (set cs f x)
-    ≡ set (add_side g (row at f xs) es cs) f (add binary32 x (mul binary32 (mul binary32 (get_or xs (at + f) nan) (get_or es f nan)) g))
-row_next g xs es cs at f x hx he hc = rw (get_or-drop at xs f nan) at (side-next g (drop at xs) es cs f x (simp length-drop (omega arith)) he hc)
+-- the next copy's place
+place-after : (n i : ℕ) → n * (i + 1) ≡ n * i + n
+place-after n i = rw (add-one, mul-suc)
 
 -- ---- one frame of copies
 
 module _ (side : UnisonCopy → Float) (n : ℕ) where
   -- one copy more
-  pub frame-turn : (at i : ℕ) (e s w : Float) (xs : List Float) (cs : List UnisonCopy) → i < length cs
-      → framed side n at e xs (drop i cs) s ≡ w
-      → framed side n (at + n) e xs (drop (i + 1) cs) (add binary32 s (mul binary32 (mul binary32 (get_or xs at nan) e) (side (get_or cs i no_copy)))) ≡ w
+  pub framed_more : (i : ℕ) (e s : Float) (xs : List Float) (cs : List UnisonCopy) → i < length cs
+      → framed side n e (drop (n * i) xs) (drop i cs) s
+      ≡ framed side n e (drop (n * (i + 1)) xs) (drop (i + 1) cs) (add binary32 s (mul binary32 (mul binary32 (get_or xs (n * i) nan) e) (side (get_or cs i no_copy))))
   unfolding framed
-  frame-turn at i e s w xs cs h p = rw (drop_more cs i no_copy h) at p
+  framed_more i e s xs cs h =
+      let z : n * i + 0 ≡ n * i = omega arith in
+      let x : get_or (drop (n * i) xs) 0 nan ≡ get_or xs (n * i) nan = rw z at (get_or-drop (n * i) xs 0 nan) in
+      let c = get_or cs i no_copy in
+      let step : framed side n e (drop (n * i) xs) (c ∷ drop (i + 1) cs) s
+      ≡ framed side n e (drop n (drop (n * i) xs)) (drop (i + 1) cs) (add binary32 s (mul binary32 (mul binary32 (get_or (drop (n * i) xs) 0 nan) e) (side c))) = refl in
+      rw (drop_more cs i no_copy h, place-after) (rw (x, drop-drop n (n * i) xs) at step)
 
-  pub frame-end : (at i : ℕ) (e s w : Float) (xs : List Float) (cs : List UnisonCopy) → length cs ≤ i → framed side n at e xs (drop i cs) s ≡ w → s ≡ w
+  pub framed_all : (i : ℕ) (e s : Float) (xs : List Float) (cs : List UnisonCopy) → length cs ≤ i → framed side n e xs (drop i cs) s ≡ s
   unfolding framed
-  frame-end at i e s w xs cs h p = rw (drop_all i cs h) at p
+  framed_all i e s xs cs h = rw (drop_all i cs h)
 
-  -- from the next copy's samples on
-  framed-drop : (at : ℕ) (e s : Float) (xs : List Float) (cs : List UnisonCopy) → framed side n at e (drop n xs) cs s ≡ framed side n (at + n) e xs cs s
-  unfolding framed
-  framed-drop at e s xs [] = refl
-  framed-drop at e s xs (c ∷ cs) =
-      let k : n + at ≡ at + n = omega arith in
-      rw (get_or-drop n xs at nan, k) (framed-drop (at + n) e _ xs cs)
-
-module _ (side : UnisonCopy → Float) (n a : ℕ) (es : List Float) where
+module _ (side : UnisonCopy → Float) (n : ℕ) (es : List Float) where
   abbrev Summed : ℕ → List Float → List UnisonCopy → List Float → List Float
-  Summed f xs cs sums = (fold (part_copy side n a f es) (mixing xs sums) cs).sums
+  Summed f xs cs sums = (fold (part_copy side n f es) (mixing xs sums) cs).sums
 
   pub frames_none : (xs sums : List Float) (cs : List UnisonCopy) → sums ≡ Summed 0 xs cs sums
   unfolding part_copy
@@ -86,66 +83,79 @@ module _ (side : UnisonCopy → Float) (n a : ℕ) (es : List Float) where
   unfolding part_copy
   frame-beyond f xs sums [] = refl
   frame-beyond f xs sums (c ∷ cs) =
-      frame-beyond f (drop n xs) (add_side (side c) (row a f xs) es sums) cs ∙ side-beyond (side c) (drop a xs) es sums f nan
+      frame-beyond f (drop n xs) (add_side (side c) (take f xs) es sums) cs ∙ side-beyond (side c) xs es sums f nan
 
   -- over sums in which x stands for the frame
-  frame-next : (f : ℕ) (x : Float) (xs sums : List Float) (cs : List UnisonCopy) → f < length es → a + f < n → n * length cs ≤ length xs → f < length sums
-      → Summed (f + 1) xs cs (set sums f x) ≡ set (Summed f xs cs sums) f (framed side n (a + f) (get_or es f nan) xs cs x)
+  frame-next : (f : ℕ) (x : Float) (xs sums : List Float) (cs : List UnisonCopy) → f < length es → n * length cs + f < length xs + n → f < length sums
+      → Summed (f + 1) xs cs (set sums f x) ≡ set (Summed f xs cs sums) f (framed side n (get_or es f nan) (drop f xs) cs x)
   unfolding part_copy framed
-  frame-next f x xs sums [] hf ha hx hs = refl
-  frame-next f x xs sums (c ∷ cs) hf ha hx hs =
+  frame-next f x xs sums [] hf hx hs = refl
+  frame-next f x xs sums (c ∷ cs) hf hx hs =
       let m = mul-suc n (length cs) in
       let e = get_or es f nan in
-      let y = add binary32 x (mul binary32 (mul binary32 (get_or xs (a + f) nan) e) (side c)) in
-      let old = add_side (side c) (row a f xs) es sums in
-      let here = row_next (side c) xs es sums a f x (omega (arith, m)) hf hs in
-      let room : n * length cs ≤ length (drop n xs) = simp length-drop (omega (arith, m)) in
-      let later = frame-next f y (drop n xs) old cs hf ha room (rw (length-add (side c) (row a f xs) es sums) hs) in
-      ap (Summed (f + 1) (drop n xs) cs) here ∙ later ∙ ap (set (Summed f (drop n xs) cs old) f) (framed-drop side n (a + f) e y xs cs)
+      let y = add binary32 x (mul binary32 (mul binary32 (get_or xs f nan) e) (side c)) in
+      let old = add_side (side c) (take f xs) es sums in
+      let here = side-next (side c) xs es sums f x (omega (arith, m)) hf hs in
+      let room : n * length cs + f < length (drop n xs) + n = simp length-drop (omega (arith, m)) in
+      let later = frame-next f y (drop n xs) old cs hf room (rw (length-add (side c) (take f xs) es sums) hs) in
+      let z : f + 0 ≡ f = omega arith in
+      let k : n + f ≡ f + n = omega arith in
+      ap (Summed (f + 1) (drop n xs) cs) here ∙ rw (get_or-drop f xs 0 nan, z, drop-drop n f xs) (rw (drop-drop f n xs, k) at later)
 
   -- the frame more that the code adds
-  pub frame_more : (f : ℕ) (xs sums o : List Float) (cs : List UnisonCopy) → f < length es → a + f < n → n * length cs ≤ length xs → f < length sums
-      → o ≡ Summed f xs cs sums → set o f (framed side n (a + f) (get_or es f nan) xs cs (get_or o f nan)) ≡ Summed (f + 1) xs cs sums
-  frame_more f xs sums o cs hf ha hx hs p =
-      rw (p, frame-beyond f xs sums cs) (sym (rw (set-get_or sums f nan) at (frame-next f (get_or sums f nan) xs sums cs hf ha hx hs)))
+  pub frame_more : (f : ℕ) (xs sums o : List Float) (cs : List UnisonCopy) → f < length es → n * length cs + f < length xs + n → f < length sums
+      → o ≡ Summed f xs cs sums → set o f (framed side n (get_or es f nan) (drop f xs) cs (get_or o f nan)) ≡ Summed (f + 1) xs cs sums
+  frame_more f xs sums o cs hf hx hs p =
+      rw (p, frame-beyond f xs sums cs) (sym (rw (set-get_or sums f nan) at (frame-next f (get_or sums f nan) xs sums cs hf hx hs)))
 
 -- ---- the copies of a voice
 
-module _ (side : UnisonCopy → Float) (n a m : ℕ) (es : List Float) where
-  fold-both : (z : Mixing) (xs ys : List UnisonCopy) → fold (part_copy side n a m es) z (xs ++ ys) ≡ fold (part_copy side n a m es) (fold (part_copy side n a m es) z xs) ys
+module _ (side : UnisonCopy → Float) (n m : ℕ) (es : List Float) where
+  fold-both : (z : Mixing) (xs ys : List UnisonCopy) → fold (part_copy side n m es) z (xs ++ ys) ≡ fold (part_copy side n m es) (fold (part_copy side n m es) z xs) ys
   fold-both z [] ys = refl
-  fold-both z (x ∷ xs) ys = fold-both (part_copy side n a m es z x) xs ys
+  fold-both z (x ∷ xs) ys = fold-both (part_copy side n m es z x) xs ys
 
-  used : (z : Mixing) (cs : List UnisonCopy) → (fold (part_copy side n a m es) z cs).samples ≡ drop (n * length cs) z.samples
+  used : (z : Mixing) (cs : List UnisonCopy) → (fold (part_copy side n m es) z cs).samples ≡ drop (n * length cs) z.samples
   unfolding part_copy
   used z [] = rw mul-zero
   used z (c ∷ cs) =
       let e : n + n * length cs ≡ n * suc (length cs) = rw mul-suc (omega arith) in
-      used (part_copy side n a m es z c) cs ∙ drop-drop (n * length cs) n z.samples ∙ rw e
+      used (part_copy side n m es z c) cs ∙ drop-drop (n * length cs) n z.samples ∙ rw e
 
   -- the first copies are done, and the samples behind theirs are left
-  pub copies-turn : (k : ℕ) (xs o w ys : List Float) (part rest cs : List UnisonCopy) → cs ≡ part ++ rest → length part ≡ k → ys ≡ drop (n * k) xs
-      → w ≡ (fold (part_copy side n a m es) (mixing xs o) part).sums
-      → (fold (part_copy side n a m es) (mixing ys w) rest).sums ≡ (fold (part_copy side n a m es) (mixing xs o) cs).sums
+  copies-turn : (k : ℕ) (xs o w ys : List Float) (part rest cs : List UnisonCopy) → cs ≡ part ++ rest → length part ≡ k → ys ≡ drop (n * k) xs
+      → w ≡ (fold (part_copy side n m es) (mixing xs o) part).sums
+      → (fold (part_copy side n m es) (mixing ys w) rest).sums ≡ (fold (part_copy side n m es) (mixing xs o) cs).sums
   copies-turn k xs o w ys part rest cs e l q p =
-      let s : ys ≡ (fold (part_copy side n a m es) (mixing xs o) part).samples = q ∙ sym (rw l at (used (mixing xs o) part)) in
+      let s : ys ≡ (fold (part_copy side n m es) (mixing xs o) part).samples = q ∙ sym (rw l at (used (mixing xs o) part)) in
       rw (e, fold-both (mixing xs o) part rest, s, p)
 
--- the next copy's place
-pub place-after : (n i : ℕ) → n * (i + 1) ≡ n * i + n
-place-after n i = rw (add-one, mul-suc)
+  -- one copy more
+  pub copies_more : (j : ℕ) (xs o : List Float) (cs : List UnisonCopy) → j < length cs
+      → (fold (part_copy side n m es) (mixing (drop (n * j) xs) o) (drop j cs)).sums
+      ≡ (fold (part_copy side n m es) (mixing (drop (n * (j + 1)) xs) (part_copy side n m es (mixing (drop (n * j) xs) o) (get_or cs j no_copy)).sums) (drop (j + 1) cs)).sums
+  copies_more j xs o cs h =
+      let all : n * j + n * 1 ≡ n * (j + 1) = omega arith in
+      let behind : drop (n * (j + 1)) xs ≡ drop (n * 1) (drop (n * j) xs) = sym (rw all at (drop-drop (n * 1) (n * j) xs)) in
+      sym (copies-turn 1 (drop (n * j) xs) o _ _ (get_or cs j no_copy ∷ []) (drop (j + 1) cs) (drop j cs) (drop_more cs j no_copy h) refl behind refl)
+
+  -- the copies from j up to e are done
+  pub few-turn : (at j e : ℕ) (xs o w t : List Float) (cs : List UnisonCopy) → j ≤ e → e ≤ length cs
+      → w ≡ (fold (part_copy side n m es) (mixing (drop (n * j + at) xs) o) (take (e - j) (drop j cs))).sums
+      → (fold (part_copy side n m es) (mixing (drop (n * j + at) xs) o) (drop j cs)).sums ≡ t
+      → (fold (part_copy side n m es) (mixing (drop (n * e + at) xs) w) (drop e cs)).sums ≡ t
+  few-turn at j e xs o w t cs h last p q =
+      let k = e - j in
+      let s : j + k ≡ e = omega arith in
+      let all : n * j + at + n * k ≡ n * e + at = let d = rw s at (mul-add n j k) in omega arith in
+      let parts : drop j cs ≡ take k (drop j cs) ++ drop e cs = rw (drop-drop k j cs, s) at (sym (take-append-drop k (drop j cs))) in
+      let behind : drop (n * e + at) xs ≡ drop (n * k) (drop (n * j + at) xs) = sym (rw all at (drop-drop (n * k) (n * j + at) xs)) in
+      copies-turn k (drop (n * j + at) xs) o w _ (take k (drop j cs)) (drop e cs) (drop j cs) parts (part-size j k cs (omega arith)) behind p ∙ q
 
 -- the code takes the copies that count
 pub copies-shown : (v : Voice) (k : ℕ) → k ≡ length (shown v).copies → take k v.copies ≡ (shown v).copies
 unfolding shown
 copies-shown v k h = rw (h, length-take) (take_min v.copy_count _ v.copies refl)
-
--- n samples for each of k copies more leave as many for the others
-pub samples-left : (n k l : ℕ) (xs : List Float) → k ≤ l → n * l ≤ length xs → n * (l - k) ≤ length (drop (n * k) xs)
-samples-left n k l xs h e =
-    let s : k + (l - k) ≡ l = omega arith in
-    let m = rw s at (mul-add n k (l - k)) in
-    simp length-drop (omega (arith, m))
 
 -- ---- the output
 
@@ -168,10 +178,21 @@ two-more out k x y h =
     let m : k < length out = omega arith in
     rw (e, take-suc-set (set out k x) (k + 1) y l, add-one k, take-suc-set out k x m, append_assoc)
 
-pub put-more : (out ls rs : List Float) (p f : ℕ) → p ≡ f + f → p + 1 < length out → f < length ls → f < length rs
+pub put_more : (out ls rs : List Float) (p f : ℕ) → p ≡ f + f → p + 1 < length out → f < length ls → f < length rs
     → take (f + f) out ≡ interleave (take f ls) (take f rs)
     → take (f + 1 + (f + 1)) (set (set out p (get_or ls f nan)) (p + 1) (get_or rs f nan)) ≡ interleave (take (f + 1) ls) (take (f + 1) rs)
-put-more out ls rs p f e h hl hr s =
+put_more out ls rs p f e h hl hr s =
     let two : f + 1 + (f + 1) ≡ p + 2 = omega arith in
     let t = rw (← e) at s in
     rw (two, two-more out p (get_or ls f nan) (get_or rs f nan) h, inter-more ls rs f hl hr, t)
+
+-- four of at most four
+pub take_four : (cs : List UnisonCopy) → length cs ≤ 4 → take 4 cs ≡ cs
+take_four cs h = take_all 4 cs h
+
+-- for tactics
+pub ruleset frame_turns = (framed_more, framed_all, mul-zero)
+
+pub ruleset part_turns = (frames_none, frame_more, take_rest)
+
+pub ruleset copy_turns = (copies_more, take_rest)

@@ -3,12 +3,12 @@
 
 #![tactic(auto)]
 
-ghost use Rattle.std.specs.Prelude.{◌≡◌, ◌+◌, ◌*◌, ◌≤◌, ◌<◌, leb, length, take};
+ghost use Rattle.std.specs.Prelude.{◌≡◌, ◌+◌, ◌*◌, ◌≤◌, ◌<◌, leb, length, take, drop};
 ghost use Rattle.lists.specs.Prefix.{fold};
 ghost use Rattle.model.specs.Voices.{aged};
 ghost use Rattle.model.specs.Mix.{mixing, interleave, on_left, on_right};
-ghost use Rattle.render.specs.Parts.{part_copy, framed, PartFits, BothSides};
-ghost use Rattle.render.specs.Mixes.{Fits, AddedAs, added_voice, with_env, FitsOut, PutAs, goes_on};
+ghost use Rattle.render.specs.Parts.{part_copy, framed, PartFits, CopiesFit, SidesFit, BothSides};
+ghost use Rattle.render.specs.Mixes.{AddedAs, added_voice, with_env, PutAs, goes_on};
 
 use envelope::EnvGen;
 use lists::fills;
@@ -22,58 +22,78 @@ struct Sums {
     right: f32,
 }
 
-// One frame of the copies: its samples stand n places apart, the first at `at`.
+// One frame of the copies: their samples stand n places apart, the first one's first.
+#[tactic(auto, using(crate::proofs::Turns::frame_turns))]
 fn add_frame<const K: usize>(
     copies: &[UnisonCopy; K],
     samples: &[f32],
     n: usize,
-    at: usize,
     level: f32,
     sums: Sums,
 ) -> Sums
-    requires { (n * K ≤ length samples.now) × (at < n) }
-    ensures left { result.left ≡ framed on_left n at level samples.now copies.now sums.left }
-    ensures right { result.right ≡ framed on_right n at level samples.now copies.now sums.right }
+    requires { n * K < length samples.now + n }
+    ensures left { result.left ≡ framed on_left n level samples.now copies.now sums.left }
+    ensures right { result.right ≡ framed on_right n level samples.now copies.now sums.right }
 {
     let mut left = sums.left;
     let mut right = sums.right;
-    let mut place = at;
-    for copy in copies {
-        let x = samples[place] * level;
+    for (k, copy) in copies.iter().enumerate() {
+        let x = samples[n * k] * level;
         left = left + x * copy.l;
         right = right + x * copy.r;
-        place += n;
     }
     Sums { left, right }
 }
 
-// Copies go into a part in one pass, on both sides; each has n samples, and the part begins at frame a. By value: behind
-// a reference each frame reads the gains anew, which costs a tenth of the pass. The sums by index: of what goes through
-// a zip of `iter_mut` a proof knows nothing.
+// Copies go into a part in one pass, on both sides. By value: behind a reference each frame reads the gains anew, which
+// costs a tenth of the pass. The sums by index: of what goes through a zip of `iter_mut` a proof knows nothing.
+#[tactic(auto, using(crate::proofs::Turns::part_turns))]
 fn add_together<const K: usize>(
     copies: [UnisonCopy; K],
     samples: &[f32],
     n: usize,
-    a: usize,
     levels: &[f32],
     left: &mut [f32],
     right: &mut [f32],
 )
-    requires { PartFits n K a samples.now levels.now left.old right.old }
-    ensures { BothSides (λ side sums. (fold (part_copy side n a (length levels.now) levels.now) (mixing samples.now sums) copies.entry).sums) on_left on_right left.old right.old left.new right.new }
+    requires { PartFits n K samples.now levels.now left.old right.old }
+    ensures { BothSides (λ side sums. (fold (part_copy side n (length levels.now) levels.now) (mixing samples.now sums) copies.entry).sums) on_left on_right left.old right.old left.new right.new }
 {
     for (f, level) in levels.iter().enumerate() {
         let sums = Sums {
             left: left[f],
             right: right[f],
         };
-        let more = add_frame(&copies, samples, n, a + f, *level, sums);
+        let more = add_frame(&copies, &samples[f..], n, *level, sums);
         left[f] = more.left;
         right[f] = more.right;
     }
 }
 
-// The copies of one voice go into a part: four at a time while there are four.
+// Up to four copies go into a part: four in one pass, fewer one by one.
+#[tactic(auto, using(crate::proofs::Turns::take_four))]
+fn add_few(
+    copies: &[UnisonCopy],
+    samples: &[f32],
+    n: usize,
+    levels: &[f32],
+    left: &mut [f32],
+    right: &mut [f32],
+)
+    requires { (length copies.now ≤ 4) × PartFits n (length copies.now) samples.now levels.now left.old right.old }
+    ensures { BothSides (λ side sums. (fold (part_copy side n (length levels.now) levels.now) (mixing samples.now sums) copies.now).sums) on_left on_right left.old right.old left.new right.new }
+{
+    if let Some(four) = copies.first_chunk::<4>() {
+        add_together(*four, samples, n, levels, left, right);
+        return;
+    }
+    #[tactic(auto, using(crate::proofs::Turns::copy_turns))]
+    for (i, copy) in copies.iter().enumerate() {
+        add_together([*copy], &samples[n * i..], n, levels, left, right);
+    }
+}
+
+// The copies of one voice go into a part that begins at frame a; each has n samples.
 fn add_copies(
     copies: &[UnisonCopy],
     samples: &[f32],
@@ -83,56 +103,44 @@ fn add_copies(
     left: &mut [f32],
     right: &mut [f32],
 )
-    requires { PartFits n (length copies.now) a samples.now levels.now left.old right.old }
-    ensures { BothSides (λ side sums. (fold (part_copy side n a (length levels.now) levels.now) (mixing samples.now sums) copies.now).sums) on_left on_right left.old right.old left.new right.new }
+    requires { CopiesFit n (length copies.now) a samples.now levels.now left.old right.old }
+    ensures { BothSides (λ side sums. (fold (part_copy side n (length levels.now) levels.now) (mixing (drop a samples.now) sums) copies.now).sums) on_left on_right left.old right.old left.new right.new }
 {
-    let mut copies = copies;
-    let mut samples = samples;
-    while !copies.is_empty() {
-        if let Some(four) = copies.first_chunk::<4>() {
-            add_together(*four, samples, n, a, levels, left, right);
-            copies = &copies[4..];
-            samples = &samples[n * 4..];
-        } else {
-            add_together([copies[0]], samples, n, a, levels, left, right);
-            copies = &copies[1..];
-            samples = &samples[n..];
-        }
+    for i in (0..copies.len()).step_by(4) {
+        let end = copies.len().min(i + 4);
+        add_few(
+            &copies[i..end],
+            &samples[n * i + a..],
+            n,
+            levels,
+            left,
+            right,
+        );
     }
 }
 
 // A voice goes into the sums part by part, and the envelope of the next part is the one behind this. The parts by
 // index: of what goes through `chunks_mut` a proof knows nothing.
-fn add_parts(
-    v: Voice,
-    n: usize,
-    trem: f32,
-    samples: &[f32],
-    p: usize,
-    left: &mut [f32],
-    right: &mut [f32],
-) -> EnvGen
-    requires { Fits v n p samples.now left.old right.old }
-    ensures { (result ≡ aged n v.env) × BothSides (λ side. added_voice side v n trem samples.now p) on_left on_right left.old right.old left.new right.new }
+fn add_parts(v: Voice, trem: f32, samples: &[f32], left: &mut [f32], right: &mut [f32]) -> EnvGen
+    requires { SidesFit v samples.now left.old right.old }
+    ensures { (result ≡ aged (length left.old) v.env) × BothSides (λ side. added_voice side v (length left.old) trem samples.now 0) on_left on_right left.old right.old left.new right.new }
 {
+    let n = left.len();
     let k = v.copies_shown();
     let mut e = v.env;
-    let mut a: usize = 0;
-    while a < n {
-        let m = (n - a).min(64);
-        let end = a + m;
-        let filled = levels::fill(e, v.gain, trem, m);
+    for a in (0..n).step_by(64) {
+        let end = n.min(a + 64);
+        let filled = levels::fill(e, v.gain, trem, end - a);
         add_copies(
             &v.copies[..k],
-            &samples[p..],
+            samples,
             n,
             a,
-            &filled.levels[..m],
+            &filled.levels[..end - a],
             &mut left[a..end],
             &mut right[a..end],
         );
         e = filled.env;
-        a = end;
     }
     e
 }
@@ -142,10 +150,7 @@ fn stand_from(p: usize, n: usize, k: usize, len: usize) -> bool
     requires { (n ≤ 1024) × (k ≤ 8) }
     ensures { result ≡ leb (p + n * k) len }
 {
-    if p <= len {
-        return n * k <= len - p;
-    }
-    false
+    p <= len && n * k <= len - p
 }
 
 // One voice goes into the sums of both sides, its samples from p on; gives its envelope n frames later. Where
@@ -161,23 +166,18 @@ pub fn add_voice(
 ) -> EnvGen
     ensures { AddedAs v n trem samples.now p left.old right.old left.new right.new result }
 {
-    let env = v.env;
-    if n > 1024 {
-        return env;
+    if n <= 1024
+        && n <= left.len()
+        && n <= right.len()
+        && stand_from(p, n, v.copies_shown(), samples.len())
+    {
+        return add_parts(v, trem, &samples[p..], &mut left[..n], &mut right[..n]);
     }
-    if n > left.len() {
-        return env;
-    }
-    if n > right.len() {
-        return env;
-    }
-    if !stand_from(p, n, v.copies_shown(), samples.len()) {
-        return env;
-    }
-    add_parts(v, n, trem, samples, p, left, right)
+    v.env
 }
 
 // The voice with another envelope.
+#[tactic(auto, unfolding(crate::specs::Mixes::with_env))]
 pub fn with_env(mut v: Voice, env: EnvGen) -> Voice
     ensures { result ≡ with_env v env }
 {
@@ -185,12 +185,13 @@ pub fn with_env(mut v: Voice, env: EnvGen) -> Voice
     v
 }
 
-// m sums of each side, left before right. By index: of what goes through `chunks_exact_mut` a proof knows nothing.
-fn put_pairs(left: &[f32], right: &[f32], m: usize, out: &mut [f32])
-    requires { FitsOut m left.now right.now out.old }
-    ensures { out.new ≡ interleave (take m left.now) (take m right.now) }
+// The sums of each side, left before right. By index: of what goes through `chunks_exact_mut` a proof knows nothing.
+#[tactic(auto, using(crate::proofs::Turns::put_more))]
+fn put_pairs(left: &[f32], right: &[f32], out: &mut [f32])
+    requires { (length right.now ≡ length left.now) × (2 * length left.now ≡ length out.old) }
+    ensures { out.new ≡ interleave left.now right.now }
 {
-    for f in 0..m {
+    for f in 0..left.len() {
         out[2 * f] = left[f];
         out[2 * f + 1] = right[f];
     }
@@ -200,24 +201,14 @@ fn put_pairs(left: &[f32], right: &[f32], m: usize, out: &mut [f32])
 pub fn put(left: &[f32], right: &[f32], m: usize, out: &mut [f32])
     ensures { PutAs left.now right.now m out.old out.new }
 {
-    if m > left.len() {
-        return;
+    if m <= left.len() && m <= right.len() && fills(2, m, out.len()) {
+        put_pairs(&left[..m], &right[..m], out);
     }
-    if m > right.len() {
-        return;
-    }
-    if !fills(2, m, out.len()) {
-        return;
-    }
-    put_pairs(left, right, m, out);
 }
 
 // Whether a voice goes on, by its envelope: neither run down nor faded.
 pub fn goes_on(env: EnvGen) -> bool
     ensures { result ≡ goes_on env }
 {
-    if !env.active() {
-        return false;
-    }
-    !env.faded()
+    env.active() && !env.faded()
 }
