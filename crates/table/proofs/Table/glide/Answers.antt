@@ -8,36 +8,6 @@ use Rattle.table.proofs.Gliding.{Gliding, gliding-start, glide-moves, glide-stan
 use Rattle.table.proofs.Table.glide.Goals as goal
 use Rattle.table.proofs.Table.glide.Goals.{then-stands, else-stands}
 
-pub loop-i-init : goal.loop-i-init
-loop-i-init c =
-    let l = voices-long c.args.self c.well_formed.0 in
-    let e = c.min-n.ensures in
-    (omega arith, omega arith, gliding-start _ _ _ _ (omega arith))
-
-pub overflow_mul-n : goal.overflow_mul-n
-overflow_mul-n c = omega (arith, mul-le-mul c.loop-i.invariant.1 c.copies_shown.ensures.0)
-
-pub overflow_add-at : goal.overflow_add-at
-overflow_add-at c = omega (arith, mul-le-mul c.loop-i.invariant.1 c.copies_shown.ensures.0)
-
-pub offset_bounds-curve-at : goal.offset_bounds-curve-at
-offset_bounds-curve-at c = let p = c.loop-i.invariant.2 in let r = p.room in let s = p.size in omega arith
-
-pub slice_bounds-write_standing-count : goal.slice_bounds-write_standing-count
-slice_bounds-write_standing-count c = let p = c.loop-i.invariant.2 in let r = p.room in let s = p.size in omega arith
-
-pub slice_bounds-write_standing-end : goal.slice_bounds-write_standing-end
-slice_bounds-write_standing-end c = let p = c.loop-i.invariant.2 in let r = p.room in let s = p.size in omega arith
-
-pub offset_bounds-curve-at-else-stands : goal.offset_bounds-curve-at-else-stands
-offset_bounds-curve-at-else-stands c = let p = c.loop-i.invariant.2 in let r = p.room in let s = p.size in omega arith
-
-pub slice_bounds-glide_voice-count : goal.slice_bounds-glide_voice-count
-slice_bounds-glide_voice-count c = let p = c.loop-i.invariant.2 in let r = p.room in let s = p.size in omega arith
-
-pub slice_bounds-glide_voice-end : goal.slice_bounds-glide_voice-end
-slice_bounds-glide_voice-end c = let p = c.loop-i.invariant.2 in let r = p.room in let s = p.size in omega arith
-
 pub loop-i-preserved : goal.loop-i-preserved
 loop-i-preserved c =
     let p = c.loop-i.invariant in

@@ -15,19 +15,6 @@ use Rattle.table.proofs.Table.mix.Goals.{then-not-goes_on, else-not-goes_on+then
 pub loop-i-init : goal.loop-i-init
 loop-i-init c = (search rules, refl, refl, mix-start _ _ _ _ _)
 
-pub overflow_mul-n : goal.overflow_mul-n
-overflow_mul-n c =
-    let short : c.min-n.result ≤ 1024 = omega arith in
-    omega (arith, mul-le-mul short c.copies_shown.ensures.0)
-
-pub overflow_add-at : goal.overflow_add-at
-overflow_add-at c =
-    let short : c.min-n.result ≤ 1024 = omega arith in
-    omega (arith, mul-le-mul short c.copies_shown.ensures.0, c.loop-i.invariant.3.within, c.well_formed.1.1.1.0.0)
-
-pub overflow_add-gone : goal.overflow_add-gone
-overflow_add-gone c = omega (arith, c.loop-i.invariant.0, c.loop-i-test.true, c.min-count.ensures)
-
 pub loop-i-preserved : goal.loop-i-preserved
 loop-i-preserved c =
     let x = c.args in
@@ -60,13 +47,3 @@ loop-i-preserved c =
       omega (arith, c.add_voice-env.auto, i.2),
       next,
     )
-
-pub shape_of-ended : goal.shape_of-ended
-shape_of-ended c = report-long c.loop-i.invariant.3.table
-
-pub returns : goal.returns
-returns c =
-    let x = c.args in
-    let long = voices-long x.self c.well_formed.0 in
-    let i = c.loop-i.invariant in
-    mixed-end x.self (long) _ x.trem _ _ _ x.frames _ c.min-n.ensures c.min-count.ensures (omega (arith, c.loop-i-test.false, c.loop-i.auto)) i.3
