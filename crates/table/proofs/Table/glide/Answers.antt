@@ -1,10 +1,9 @@
 use mathlib.Core.Path.{refl}
 use Prim.Native.Nat.{◌+◌}
-use native.Mathlib.Nat.{mul-le-mul}
 use native.Mathlib.Omega.{arith}
 use Rattle.curves.proofs.Standing.{stands-glides}
 use Rattle.table.proofs.Sizes.{voices-long}
-use Rattle.table.proofs.Gliding.{Gliding, gliding-start, glide-moves, glide-stands, glided-table}
+use Rattle.table.proofs.Gliding.{Gliding, glide-moves, glide-stands, glided-table}
 use Rattle.table.proofs.Table.glide.Goals as goal
 use Rattle.table.proofs.Table.glide.Goals.{then-stands, else-stands}
 

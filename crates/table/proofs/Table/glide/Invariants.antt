@@ -1,4 +1,4 @@
-use Prim.Native.Nat.{◌-◌, ◌≤◌}
+use Prim.Native.Nat.{◌≤◌}
 use Rattle.table.proofs.Gliding.{Gliding}
 use Rattle.table.proofs.Table.glide.Given as goal
 

@@ -1,14 +1,12 @@
 use mathlib.Core.Path.{◌≡◌, refl}
 use Prim.Native.Nat.{◌+◌, ◌≤◌, ◌<◌, min}
-use native.Mathlib.Nat.{mul-le-mul}
 use native.Mathlib.Omega.{arith}
 use borrow.Author.Rules.{rules}
 use lib.ListN.{length, get_or}
 use Rattle.lists.specs.Pass.{pass-read}
 use Rattle.voice.proofs.Sizes.{past_end}
 use Rattle.table.proofs.Sizes.{voices-long}
-use Rattle.table.proofs.Retaining.{report-long}
-use Rattle.table.proofs.Mixing.{UnderWay, mixed_to, mix-start, mix-here, mix-up, mix-not, mixed-more, mixed-end}
+use Rattle.table.proofs.Mixing.{UnderWay, mixed_to, mix-start, mix-here, mix-up, mix-not, mixed-more}
 use Rattle.table.proofs.Table.mix.Goals as goal
 use Rattle.table.proofs.Table.mix.Goals.{then-not-goes_on, else-not-goes_on+then-gone-gt0, else-not-goes_on+else-gone-gt0}
 

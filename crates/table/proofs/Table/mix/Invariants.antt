@@ -1,5 +1,5 @@
 use mathlib.Core.Path.{◌≡◌}
-use Prim.Native.Nat.{◌-◌, ◌≤◌}
+use Prim.Native.Nat.{◌≤◌}
 use lib.ListN.{length}
 use Rattle.table.proofs.Mixing.{UnderWay, mixed_to}
 use Rattle.table.proofs.Table.mix.Given as goal

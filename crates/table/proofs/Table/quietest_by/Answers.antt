@@ -2,7 +2,7 @@ use mathlib.Core.Path.{◌≡◌, sym, ◌∙◌}
 use mathlib.Core.Bool.{true≢false}
 use native.Mathlib.Omega.{arith}
 use lib.ListN.{length}
-use Rattle.table.proofs.Searches.{best-start, best-fails, best-here, best-stays, best-end}
+use Rattle.table.proofs.Searches.{best-fails, best-here, best-stays, best-end}
 use Rattle.table.proofs.Table.quietest_by.Goals as goal
 use Rattle.table.proofs.Table.quietest_by.Goals.{then-test+then-below, in-Some, in-None, then-test+else-below, else-test}
 
