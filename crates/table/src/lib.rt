@@ -184,10 +184,8 @@ impl Table {
             return None;
         }
         let victim = self.quietest()?;
-        let mut voices = self.voices;
-        let handle = voices[victim].handle;
-        voices.copy_within(victim + 1..self.count, victim);
-        self.voices = voices;
+        let handle = self.voices[victim].handle;
+        self.voices.copy_within(victim + 1..self.count, victim);
         self.count -= 1;
         Some(handle)
     }

@@ -35,6 +35,7 @@ impl Table {
         let count = self.count.min(64);
         let mut gone: usize = 0;
         let mut at: usize = 0;
+        // By place: one that goes on is put where one that has ended stood.
         for i in 0..count {
             let v = self.voices[i];
             let env = render::add_voice(v, n, trem, samples, at, left, right);
