@@ -1,5 +1,5 @@
 -- What a search of the table says of a place.
-use mathlib.Core.Path.{◌≡◌, refl, sym, ◌∙◌}
+use mathlib.Core.Path.{◌≡◌, refl}
 use mathlib.Core.Bool.{Bool, true, false}
 use mathlib.Core.List.{List}
 use Prim.Native.Nat.{ℕ, ◌≤◌, ◌<◌}
@@ -21,14 +21,14 @@ pub is-none : (o : Option ℕ) → ((k : ℕ) → o ≡ Some k → ⊥) → o �
 is-none None f = refl
 is-none (Some k) f = absurd (f k refl)
 
-at-place : {A : Type 0} (l : List A) (j k : ℕ) → Some k ≡ place_in j l → (k ≡ j) × (j < length l)
+pub at-place : {A : Type 0} (l : List A) (j k : ℕ) → Some k ≡ place_in j l → (k ≡ j) × (j < length l)
 at-place l j k e = by (ltb j (length l)) refl
   where
     by : (b : Bool) → ltb j (length l) ≡ b → (k ≡ j) × (j < length l)
     by true q = let h : Some k ≡ Some j = rw q at e in let z : k ≡ j = cc in (z, ltb-true _ _ q)
     by false q = let h : Some k ≡ None = rw q at e in let z : ◌≡◌ {A = ℕ} 0 1 = cc in let n : ⊥ = omega arith in absurd n
 
-no-place : {A : Type 0} (l : List A) (j : ℕ) → None ≡ place_in j l → length l ≤ j
+pub no-place : {A : Type 0} (l : List A) (j : ℕ) → None ≡ place_in j l → length l ≤ j
 no-place l j e = by (ltb j (length l)) refl
   where
     by : (b : Bool) → ltb j (length l) ≡ b → length l ≤ j

@@ -20,8 +20,6 @@ use Rattle.table.specs.View.{voices_in, place_in}
 use Rattle.instrument.specs.View.{view, counted, formed}
 use Rattle.instrument.specs.Asked.{asked_of, VoiceAs}
 use Rattle.instrument.specs.declared.Instrument.{Instrument}
-use Rattle.instrument.proofs.Calls.{counts}
-use Rattle.instrument.proofs.Formed.{voices-count}
 
 some-inside : (b : Bool) (k : ℕ) → is_some (cond b (Some k) None) ≡ b
 some-inside true k = refl
@@ -51,34 +49,29 @@ module _ (s : Instrument) (e : formed s ≡ false) where
   voice-refused n = record { in_room = λ p. ((rw p at e), refl); beyond = λ _. refl }
 
 -- a state that is well formed
-module _ (s : Instrument) (e : formed s ≡ true) (lv : length s.table.voices ≡ 64) where
-  pub fine : (counted s ≡ true) × (well_formed (view s) ≡ true)
+module _ (s : Instrument) (e : formed s ≡ true) where
+  fine : (counted s ≡ true) × (well_formed (view s) ≡ true)
   unfolding formed
   fine = both (counted s) (well_formed (view s)) e
-
-  long : s.table.count ≤ length s.table.voices
-  long = let k = (counts s fine.0).voices64 in omega arith
 
   pub active-found : (h : ℕ) (o : Option ℕ) (b : Bool) → o ≡ place_in (find_at (has_handle h) (voices_in s.table)) (voices_in s.table) → b ≡ is_some o
       → Q.Answer.active b ≡ asked_of s (is_active (view s) h)
   unfolding asked_of is_active is_place place_of view
   active-found h o b q e = rw (fine.0, fine.1, e, q) (ap Q.Answer.active (some-inside (ltb (find_at (has_handle h) (voices_in s.table)) (length (voices_in s.table))) _))
 
-  pub voices-found : Q.Answer.voices s.table.count ≡ asked_of s (active_voices (view s))
+  pub voices-found : (n : ℕ) → n ≡ length (voices_in s.table) → Q.Answer.voices n ≡ asked_of s (active_voices (view s))
   unfolding asked_of active_voices view
-  voices-found = rw (fine.0, fine.1, voices-count s long)
+  voices-found n h = rw (fine.0, fine.1, h)
 
   module _ (n k : ℕ) (q : k ≡ find_at (sounds_note n) (voices_in s.table)) where
-    pub voice-none : s.table.count ≤ k → VoiceAs s n (Ok None)
+    pub voice-none : length (voices_in s.table) ≤ k → VoiceAs s n (Ok None)
     unfolding VoiceOf view
     voice-none h =
-        let l = voices-count s long in
         record { in_room = λ _. (fine.1, find-missed (sounds_note n) (voices_in s.table) (omega arith)); beyond = λ x. absurd (x fine.0) }
 
-    pub voice-some : (a : ℕ) → a ≡ handle_at k (voices_in s.table) → k < s.table.count → VoiceAs s n (Ok (Some a))
+    pub voice-some : (a : ℕ) → a ≡ handle_at k (voices_in s.table) → k < length (voices_in s.table) → VoiceAs s n (Ok (Some a))
     unfolding VoiceOf view
     voice-some a e h =
-        let l = voices-count s long in
         record {
           in_room = λ _. (
             fine.1,

@@ -18,7 +18,7 @@ pub returns-then-rest-eq0 : goal.returns-then-rest-eq0
 unfolding placed_as
 returns-then-rest-eq0 c =
     mono-last c.args.self (free _ c.requires) (held-long c.args.self c.well_formed.0) _ _ c.without-rest.ensures _ _ c.if-rest-self.false c.answered-then-rest-eq0.ensures c.if-rest-eq0.true
-    (c.change_all-off.ensures (off_sounding c.args.self.sustain) (λ v w p. search rules))
+    (c.change_all-self.ensures (off_sounding c.args.self.sustain) (λ v w p. search rules))
 
 pub returns-in_default : goal.returns-in_default
 unfolding placed_as shown
@@ -38,4 +38,4 @@ returns c =
     let long = voices-long s c.well_formed.0 in
     let some = found-some s f.counted long _ _ (sym c.in-Some.is ∙ c.find_first-found.ensures sounding (λ v b p. search rules)) in
     mono-back s f (held-long s c.well_formed.0) _ _ c.without-rest.ensures _ _ c.if-rest-self.false c.answered-2.ensures _ _ c.if-rest-eq0.false
-    some.0 c.newest-newest.ensures (c.change_at-aimed.ensures (aimed_at s.design.glide c.newest-newest.result) (λ v w p. search rules))
+    some.0 c.newest-newest.ensures (c.change_at-self.ensures (aimed_at s.design.glide c.newest-newest.result) (λ v w p. search rules))

@@ -20,7 +20,7 @@ returns-in-Some c =
     let some = found-some x f.counted long _ _ (sym c.in-Some.is ∙ c.find_first-found.ensures sounding (λ v b p. search rules)) in
     mono-kept x f long (held-long x c.well_formed.0)
     _ c.ranges.note.fits _ c.with-with.ensures _ _ _ _ some.0 _ some.1 _ _
-    c.handle_at-handle.ensures (c.change_at-kept.ensures (kept_voice x.design.glide c.args.legato c.args.note c.args.velocity) (λ v w p. search rules)) c.answered.ensures
+    c.handle_at-handle.ensures (c.change_at-self.ensures (kept_voice x.design.glide c.args.legato c.args.note c.args.velocity) (λ v w p. search rules)) c.answered.ensures
 
 pub returns-then-self-eq18446744073709551615 : goal.returns-then-self-eq18446744073709551615
 unfolding shown
