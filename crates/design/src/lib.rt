@@ -73,7 +73,7 @@ impl Modulation {
     }
 }
 
-#[derive(Clone, Copy, Default)]
+#[derive(Clone, Copy)]
 pub struct InstrumentDesign {
     pub sample_rate: u32,
     pub max_voices: u32,
@@ -84,6 +84,24 @@ pub struct InstrumentDesign {
     // The one-pole coefficient per sample that the host works out from the glide time.
     pub glide: f32,
     pub modulation: Modulation,
+}
+
+// The design of the state that comes with a refused start. By hand, so that it says which design that is.
+impl Default for InstrumentDesign {
+    ghost is_default = { λ d. d ≡ zero_design };
+
+    fn default() -> InstrumentDesign {
+        InstrumentDesign {
+            sample_rate: 0,
+            max_voices: 0,
+            mode: PlayMode::default(),
+            unison: 0,
+            unison_width: 0.0,
+            amp: Adsr::default(),
+            glide: 0.0,
+            modulation: Modulation::default(),
+        }
+    }
 }
 
 impl InstrumentDesign {
@@ -127,11 +145,4 @@ impl InstrumentDesign {
     {
         self.unison.max(1)
     }
-}
-
-// The design of the state that comes with a refused start.
-pub fn zero_design() -> InstrumentDesign
-    ensures { result ≡ zero_design }
-{
-    InstrumentDesign::default()
 }

@@ -60,6 +60,7 @@ fn refused(reason: Refusal) -> Outcome<EnvGen, ()>
 
 impl EnvGen {
     // Four settings and no struct of them: the Rust's `EnvGen::new` takes them so.
+    #[tactic(auto, using(crate::proofs::Starts::tests_of_new), unfolding(crate::specs::Start::new_env, crate::specs::Start::settled, crate::specs::Start::all_finite))]
     pub fn new(a: f32, d: f32, s: f32, r: f32, rate: u32) -> Outcome<EnvGen, ()>
         ensures { result ≡ new_env a d s r rate }
     {
@@ -75,9 +76,7 @@ impl EnvGen {
             s: float32::clamp(s, 0.0, 1.0),
             r: float32::max(r, 0.0),
             sr: rate as f32,
-            stage: Stage::Idle,
-            level: 0.0,
-            rel_from: 0.0,
+            ..EnvGen::default()
         };
         Outcome::answered(env, ())
     }
@@ -159,6 +158,7 @@ impl EnvGen {
         }
     }
 
+    #[tactic(auto, unfolding(crate::specs::Ticks::ticked_attack, crate::specs::Ticks::rise))]
     fn tick_attack(self) -> EnvGen
         ensures { result ≡ ticked_attack self }
     {
@@ -172,6 +172,7 @@ impl EnvGen {
         self.at(Stage::Attack, level)
     }
 
+    #[tactic(auto, unfolding(crate::specs::Ticks::ticked_decay, crate::specs::Ticks::fall))]
     fn tick_decay(self) -> EnvGen
         ensures { result ≡ ticked_decay self }
     {
@@ -185,6 +186,7 @@ impl EnvGen {
         self.at(Stage::Decay, level)
     }
 
+    #[tactic(auto, unfolding(crate::specs::Ticks::ticked_release, crate::specs::Ticks::decline))]
     fn tick_release(self) -> EnvGen
         ensures { result ≡ ticked_release self }
     {

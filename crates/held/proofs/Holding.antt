@@ -1,33 +1,40 @@
 -- Laws for the passes over the held notes.
 use mathlib.Core.Path.{◌≡◌, refl, ap, sym, ◌∙◌}
 use mathlib.Core.Bool.{Bool, true, false, not}
+use Rattle.std.specs.Prelude.{Option, Some, None}
+use Rattle.std.specs.List.{slice_get}
+use Rattle.std.specs.Option.{option_map, option_copied, MatchOption, IsSomeAnd}
+use Rattle.std.proofs.Common.{get_or-take}
+use Rattle.std.proofs.lemmas.Option.{none-some, same_Some, slice_get_past, slice_get-get_or}
+use denote.Bor.{Bor}
 use mathlib.Core.List.{List, [], ◌∷◌, ◌++◌, append-nil}
 use Prim.Native.Nat.{ℕ, ◌+◌, ◌-◌, ◌≤◌, ◌<◌, min}
 use native.Mathlib.Omega.{arith}
-use borrow.Author.Tests.{eq-eqb, ne_eqb, lt-ltb, ltb-true, ltb-false}
+use borrow.Author.Tests.{eq-eqb, ne_eqb, eqb-true, eqb-false, lt-ltb, ltb-true, ltb-false}
 use lib.Dec.{eqb, ltb}
-use lib.ListN.{length, get_or, set, take, length-map, length-take, length-append, get_or-eq_default}
+use lib.ListN.{length, get_or, set, length-set, take, length-map, length-take, length-append}
 use lib.Seq.{take_all, take-append-le}
 use Rattle.lists.specs.All.{all}
 use Rattle.lists.specs.Choose.{both}
 use Rattle.lists.specs.Perms.{times, distinct, times-of-distinct, distinct-short}
 use Rattle.lists.specs.Places.{kept_append, kept-none, kept-le, count_kept}
-use Rattle.lists.specs.Pass.{Pass, pass-start, pass-read, pass-skip, pass-keep}
 use Rattle.lists.specs.Prefix.{shown-length, shown-at, shown-push, get_d_any}
 use Rattle.note.specs.declared.Note.{Note}
-use Rattle.model.specs.Notes.{held_without, held_with, newest_held}
-use Rattle.held.specs.View.{number_of_note, held_first, held_in, byte, Holds}
+use Rattle.model.specs.Notes.{held_without, held_with, newest_held, none_held}
+use Rattle.held.specs.View.{number_of_note, held_first, held_in, newest_in, byte, Holds}
 use Rattle.held.specs.declared.Held.{Held}
 use Rattle.held.proofs.Flags.{held_more, held-least}
 
 -- after i notes: what is kept stands in front, and each of it is a byte
 pub record Keeping (held : List Note) (note w i : ℕ) (notes : List Note) : Type 0 where
-  pub pass : Pass number_of_note (held_without note (held_first i held)) w i notes held
+  pub front : held_first w notes ≡ held_without note (held_first i held)
+  pub size : length notes ≡ 256
+  pub order : w ≤ i
   pub bytes : all byte (held_without note (held_first i held)) ≡ true
 
-pub keeping_start : (held : List Note) (note : ℕ) → Keeping held note 0 0 held
+pub keeping_start : (held : List Note) (note : ℕ) (notes : List Note) → length notes ≡ 256 → Keeping held note 0 0 notes
 unfolding held_without
-keeping_start held note = record { pass = pass-start number_of_note held; bytes = refl }
+keeping_start held note notes e = record { front = refl; size = e; order = omega arith; bytes = refl }
 
 module _ (p : ℕ → Bool) where
   all_more : (xs : List ℕ) (x : ℕ) → all p xs ≡ true → p x ≡ true → all p (xs ++ (x ∷ [])) ≡ true
@@ -39,52 +46,96 @@ module _ (held : List Note) (note w i : ℕ) (notes : List Note) (d : Note) (h :
   unfolding held_without
   one_more = rw (held_more held i d h) (kept_append (λ (x : ℕ). not (eqb x note)) (held_first i held) ((get_or held i d).0 ∷ []))
 
-  same-note : (get_or notes i d).0 ≡ (get_or held i d).0
-  same-note = ap number_of_note (pass-read d k.pass)
-
-  stays : ((get_or notes i d).0 ≡ note → ⊥) → held_without note (held_first (i + 1) held) ≡ held_without note (held_first i held) ++ ((get_or notes i d).0 ∷ [])
+  stays : ((get_or held i d).0 ≡ note → ⊥) → held_without note (held_first (i + 1) held) ≡ held_without note (held_first i held) ++ ((get_or held i d).0 ∷ [])
   unfolding held_without
-  stays n = one_more ∙ rw (same-note, ne_eqb (get_or held i d).0 note (λ e. n (same-note ∙ e)))
+  stays n = one_more ∙ rw (ne_eqb (get_or held i d).0 note n)
 
-  pub keeping-more : (get_or notes i d).0 < 256 → ((get_or notes i d).0 ≡ note → ⊥) → Keeping held note (w + 1) (i + 1) (set notes w (get_or notes i d))
-  keeping-more b n = record {
-    pass = rw (stays n) (pass-keep (get_or notes i d) (get_or notes i d).0 refl k.pass h);
-    bytes = rw (stays n) (all_more byte (held_without note (held_first i held)) (get_or notes i d).0 k.bytes (lt-ltb _ 256 b));
-  }
+  pub keeping-more : (get_or held i d).0 < 256 → w < 256 → ((get_or held i d).0 ≡ note → ⊥) → Keeping held note (w + 1) (i + 1) (set notes w (get_or held i d))
+  keeping-more b small n =
+      let z = k.size in
+      record {
+        front = shown-push number_of_note w notes (get_or held i d) (omega arith) ∙ rw (k.front, stays n);
+        size = length-set notes w _ ∙ k.size;
+        order = let o = k.order in omega arith;
+        bytes = rw (stays n) (all_more byte (held_without note (held_first i held)) (get_or held i d).0 k.bytes (lt-ltb _ 256 b));
+      }
 
-  pub keeping-skip : (get_or notes i d).0 ≡ note → Keeping held note w (i + 1) notes
+  pub keeping-skip : (get_or held i d).0 ≡ note → Keeping held note w (i + 1) notes
   unfolding held_without
   keeping-skip e =
-      let s : held_without note (held_first (i + 1) held) ≡ held_without note (held_first i held) = one_more ∙ rw (eq-eqb (get_or held i d).0 note (sym same-note ∙ e), append-nil) in
-      record { pass = rw s (pass-skip k.pass); bytes = rw s k.bytes }
+      let s : held_without note (held_first (i + 1) held) ≡ held_without note (held_first i held) = one_more ∙ rw (eq-eqb (get_or held i d).0 note e, append-nil) in
+      record { front = rw s k.front; size = k.size; order = let o = k.order in omega arith; bytes = rw s k.bytes }
+
+no : Note
+no = record { 0 = 0 }
 
 -- notes of a record, of which there are 256
 module _ (h : Held) (len : length h.notes ≡ 256) where
   pub held-size : length (held_in h) ≡ min h.count 256
   held-size = simp (length-map, length-take, len)
 
-  pub keeping-end : (note n i w : ℕ) (notes : List Note) → n ≡ min h.count 256 → i ≡ n → Keeping h.notes note w i notes
+  pub keeping-end : (note n i w : ℕ) (notes : List Note) → n ≡ min h.count 256 → n ≤ i → w ≤ 256 → Keeping (take n h.notes) note w i notes
       → Holds (held_without note (held_in h)) (record { notes = notes; count = w })
-  keeping-end note n i w notes en ei k =
-      let o = k.pass.order in
-      let z = k.pass.size in
-      let l = held-least h.count h.notes len i (ei ∙ en) in
-      let is : held_first w notes ≡ held_without note (held_in h) = k.pass.front ∙ ap (held_without note) l in
+  keeping-end note n i w notes en ei small k =
+      let z = k.size in
+      let l = held-least h.count h.notes len n i en ei in
+      let is : held_first w notes ≡ held_without note (held_in h) = k.front ∙ ap (held_without note) l in
       record { notes = is; count = sym (shown-length number_of_note w notes (omega arith)) ∙ ap length is; bytes = rw l at k.bytes }
 
-  -- the newest
-  pub newest-none : (n : ℕ) → n ≡ min h.count 256 → n ≡ 0 → 0 ≡ newest_held (held_in h)
-  unfolding newest_held
-  newest-none n en z = let s = held-size in sym (get_or-eq_default (held_in h) 0 (omega arith))
-
-  pub newest-some : (n : ℕ) (d : Note) → n ≡ min h.count 256 → (n ≡ 0 → ⊥) → (get_or h.notes (n - 1) d).0 ≡ newest_held (held_in h)
-  unfolding newest_held
-  newest-some n d en z =
+  -- the newest is the last of those that count
+  newest-at : (n : ℕ) → n ≡ min h.count 256 → (n ≡ 0 → ⊥) → newest_in (held_in h) ≡ Some (get_or h.notes (n - 1) no).0
+  unfolding newest_in newest_held none_held
+  newest-at n en z =
       let s = held-size in
       let e : length (held_in h) - 1 ≡ n - 1 = omega arith in
-      sym (ap (λ (i : ℕ). get_or (held_in h) i 0) e
-      ∙ get_d_any (held_in h) (n - 1) 0 d.0 (omega arith)
-      ∙ shown-at number_of_note h.count h.notes (n - 1) d (omega arith))
+      rw (ne_eqb (length (held_in h)) 0 (λ (q : length (held_in h) ≡ 0). z (omega arith)))
+      (ap (λ (i : ℕ). Some (get_or (held_in h) i 0)) e
+      ∙ ap Some (get_d_any (held_in h) (n - 1) 0 no.0 (omega arith) ∙ shown-at number_of_note h.count h.notes (n - 1) no (omega arith)))
+
+  newest-past : (n : ℕ) → n ≡ min h.count 256 → n ≡ 0 → newest_in (held_in h) ≡ None
+  unfolding newest_in none_held
+  newest-past n en z = let s = held-size in rw (eq-eqb (length (held_in h)) 0 (omega arith))
+
+  newest-last : (n : ℕ) → n ≡ min h.count 256 → option_map number_of_note (slice_get (take n h.notes) (length (take n h.notes) - 1)) ≡ newest_in (held_in h)
+  newest-last n en = by (eqb n 0) refl
+    where
+      size : length (take n h.notes) ≡ n
+      size = simp length-take (omega arith)
+
+      by : (b : Bool) → eqb n 0 ≡ b → option_map number_of_note (slice_get (take n h.notes) (length (take n h.notes) - 1)) ≡ newest_in (held_in h)
+      by true e =
+          let z = eqb-true n 0 e in
+          rw (slice_get_past (take n h.notes) (length (take n h.notes) - 1) (omega (arith, size)), newest-past n en z)
+      by false e =
+          let z = eqb-false n 0 e in
+          rw (size, slice_get-get_or (take n h.notes) (n - 1) no (omega (arith, size)), get_or-take n h.notes (n - 1) no (omega arith), newest-at n en z)
+
+  pub newest-of : (n : ℕ) (last : Option (Bor Note)) (r : Option ℕ) (P : Bor Note → ℕ → Type 0) → n ≡ min h.count 256
+      → option_copied last ≡ slice_get (take n h.notes) (length (take n h.notes) - 1) → MatchOption last (r ≡ None) (λ x. IsSomeAnd r (P x))
+      → ((x : Bor Note) (k : ℕ) → P x k → k ≡ x.now.0) → r ≡ newest_in (held_in h)
+  newest-of n last r P en e m f = answered last r m ∙ ap (option_map number_of_note) e ∙ newest-last n en
+    where
+      answered : (last : Option (Bor Note)) (r : Option ℕ) → MatchOption last (r ≡ None) (λ x. IsSomeAnd r (P x)) → r ≡ option_map number_of_note (option_copied last)
+      answered None r m = m
+      answered (Some x) None m = absurd m
+      answered (Some x) (Some k) m = ap Some (f x k m)
+
+-- what an answer of `newest` says of the list
+pub newest-some : (l : List ℕ) (x : ℕ) → newest_in l ≡ Some x → (none_held l ≡ false) × (x ≡ newest_held l)
+unfolding newest_in
+newest-some l x e = by (none_held l) refl
+  where
+    by : (b : Bool) → none_held l ≡ b → (none_held l ≡ false) × (x ≡ newest_held l)
+    by true q = let z : None ≡ Some x = rw q at e in absurd (none-some x z)
+    by false q = (q, sym (same_Some _ _ (rw q at e)))
+
+pub newest-none : (l : List ℕ) → newest_in l ≡ None → none_held l ≡ true
+unfolding newest_in
+newest-none l e = by (none_held l) refl
+  where
+    by : (b : Bool) → none_held l ≡ b → none_held l ≡ true
+    by true q = q
+    by false q = let z : Some (newest_held l) ≡ None = rw q at e in absurd (none-some _ (sym z))
 
 -- 256 notes leave no room
 full-same : (l : List ℕ) (x : ℕ) → length l ≡ 256 → take 256 (l ++ (x ∷ [])) ≡ l

@@ -65,11 +65,11 @@ impl Note {
     }
 
     // The note's frequency in Hz, in equal temperament.
+    #[tactic(auto, unfolding(crate::specs::Frequency::freq_of))]
     pub fn freq(self) -> f32
         ensures { result ≡ freq_of self.0 }
     {
-        let n = self.0;
-        FREQ[n as usize]
+        FREQ[self.0 as usize]
     }
 
     // The MIDI note number.

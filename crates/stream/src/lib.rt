@@ -4,7 +4,10 @@
 #![tactic(auto)]
 
 ghost use Rattle.std.specs.Prelude.{◌≡◌, ◌≤◌, length};
-ghost use Rattle.stream.specs.Copies.{spread_of, new_copy, unless_one, caught_up};
+ghost use Rattle.std.specs.Bool.{MatchBool};
+ghost use Rattle.std.specs.Float.Ieee.{eq};
+ghost use Rattle.float32.specs.Numbers.{one};
+ghost use Rattle.stream.specs.Copies.{spread_of, new_copy, caught_up};
 ghost use Rattle.stream.specs.Pitch.{bent, cut_to, glided_to, GlidedOver};
 
 // A copy: its channel gains, the note's pitch scale on its way to a target, and the pitch wheel's factor.
@@ -55,27 +58,16 @@ impl UnisonCopy {
     pub fn catch_up(self, bend: f32, brightness: f32) -> UnisonCopy
         ensures { result ≡ caught_up bend brightness self }
     {
-        self.catch_bend(bend).catch_cutoff(brightness)
+        self.unless_one(bend, |copy| copy.set_bend(bend))
+            .unless_one(brightness, |copy| copy.set_cutoff(brightness))
     }
 
-    fn catch_bend(self, bend: f32) -> UnisonCopy
-        ensures { result ≡ unless_one bend (bent bend) self }
+    // Changed where `x` is not 1.
+    fn unless_one<F: FnOnce(UnisonCopy) -> UnisonCopy>(self, x: f32, change: F) -> UnisonCopy
+        requires { F.IsAlwaysCallable change }
+        ensures { MatchBool (eq x one) (result ≡ self) (F.post change self result) }
     {
-        if bend == 1.0 {
-            self
-        } else {
-            self.set_bend(bend)
-        }
-    }
-
-    fn catch_cutoff(self, brightness: f32) -> UnisonCopy
-        ensures { result ≡ unless_one brightness (cut_to brightness) self }
-    {
-        if brightness == 1.0 {
-            self
-        } else {
-            self.set_cutoff(brightness)
-        }
+        if x == 1.0 { self } else { change(self) }
     }
 
     // The pitch aims at `scale` and moves by `coeff` of the way per sample; a NaN coefficient snaps.

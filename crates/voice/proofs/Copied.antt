@@ -1,7 +1,8 @@
 -- A voice with other copies, where they stood.
-use mathlib.Core.Path.{◌≡◌, refl, ap, sym, ◌∙◌}
-use mathlib.Core.List.{List, [], ◌∷◌, map}
+use mathlib.Core.Path.{◌≡◌, ap, sym, ◌∙◌}
+use mathlib.Core.List.{List, map}
 use lib.ListN.{take}
+use Rattle.std.proofs.lemmas.List.{map-id}
 use Rattle.stream.specs.declared.UnisonCopy.{UnisonCopy}
 use Rattle.model.specs.Voices.{with_copies, with_voice}
 use Rattle.voice.specs.declared.Voice.{Voice}
@@ -21,13 +22,9 @@ copied v cs = record {
   sustained = v.sustained;
 }
 
-map-same : {A : Type 0} (xs : List A) → map (λ (a : A). a) xs ≡ xs
-map-same [] = refl
-map-same (x ∷ xs) = ap (◌∷◌ x) (map-same xs)
-
 pub copied_seen : (f : UnisonCopy → UnisonCopy) (v : Voice) (cs : List UnisonCopy)
     → map (λ (c : UnisonCopy). c) (take v.copy_count cs) ≡ map f (map (λ (c : UnisonCopy). c) (take v.copy_count v.copies)) → seen (copied v cs) ≡ on_seen (with_copies f) (seen v)
 unfolding seen shown on_seen with_copies with_voice copied
 copied_seen f v cs e =
-    let q : take v.copy_count cs ≡ map f (take v.copy_count v.copies) = sym (map-same _) ∙ (e ∙ ap (map f) (map-same _)) in
+    let q : take v.copy_count cs ≡ map f (take v.copy_count v.copies) = sym (map-id _) ∙ (e ∙ ap (map f) (map-id _)) in
     rw q

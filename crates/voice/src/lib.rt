@@ -10,7 +10,7 @@ ghost use Rattle.model.specs.Controls.{lifted_voice};
 ghost use Rattle.model.specs.Queries.{sounds_note};
 ghost use Rattle.voice.specs.View.{shown, seen};
 ghost use Rattle.voice.specs.New.{made_copies, copies_made, made_voice};
-ghost use Rattle.voice.specs.Changes.{off_sounding, on_seen, MakesCopy};
+ghost use Rattle.voice.specs.Changes.{gated, off_sounding, on_seen, MakesCopy};
 
 use design::InstrumentDesign;
 use envelope::EnvGen;
@@ -36,25 +36,32 @@ pub struct Voice {
 }
 
 impl Voice {
-    pub fn released(mut self) -> Voice
-        ensures { seen result ≡ on_seen released_voice (seen self) }
+    // Releasing, with its envelope gated off.
+    #[tactic(auto, unfolding(crate::specs::View::seen, crate::specs::View::shown, crate::specs::Changes::on_seen, model::specs::Voices::with_voice))]
+    fn gated(mut self, env: EnvGen) -> Voice
+        ensures { seen result ≡ on_seen (gated env) (seen self) }
     {
-        let env = self.env.gate_off();
         self.env = env;
         self.releasing = true;
         self
+    }
+
+    #[tactic(auto, unfolding(crate::specs::View::seen, crate::specs::View::shown, crate::specs::Changes::on_seen, model::specs::Voices::released_voice))]
+    pub fn released(self) -> Voice
+        ensures { seen result ≡ on_seen released_voice (seen self) }
+    {
+        self.gated(self.env.gate_off())
     }
 
     // Stolen for a new note.
-    pub fn killed(mut self) -> Voice
+    #[tactic(auto, unfolding(crate::specs::View::seen, crate::specs::View::shown, crate::specs::Changes::on_seen, model::specs::Voices::killed_voice))]
+    pub fn killed(self) -> Voice
         ensures { seen result ≡ on_seen killed_voice (seen self) }
     {
-        let env = self.env.kill();
-        self.env = env;
-        self.releasing = true;
-        self
+        self.gated(self.env.kill())
     }
 
+    #[tactic(auto, unfolding(crate::specs::View::seen, crate::specs::View::shown, crate::specs::Changes::on_seen, model::specs::Voices::with_sustained, model::specs::Voices::with_voice))]
     fn with_sustained(mut self, sustained: bool) -> Voice
         ensures { seen result ≡ on_seen (with_sustained sustained) (seen self) }
     {
@@ -63,6 +70,7 @@ impl Voice {
     }
 
     // A note-off: sustained while the pedal is down, else released.
+    #[tactic(auto, unfolding(crate::specs::Changes::on_seen, model::specs::Notes::off_voice))]
     pub fn off(self, down: bool) -> Voice
         ensures { seen result ≡ on_seen (off_voice down) (seen self) }
     {
@@ -74,6 +82,7 @@ impl Voice {
     }
 
     // A voice that is releasing stays as it is.
+    #[tactic(auto, unfolding(crate::specs::View::seen, crate::specs::View::shown, crate::specs::Changes::on_seen))]
     pub fn off_sounding(self, down: bool) -> Voice
         ensures { seen result ≡ on_seen (off_sounding down) (seen self) }
     {
@@ -81,6 +90,7 @@ impl Voice {
     }
 
     // The pedal goes up: a sustained voice is released.
+    #[tactic(auto, unfolding(crate::specs::View::seen, crate::specs::View::shown, crate::specs::Changes::on_seen, model::specs::Controls::lifted_voice))]
     pub fn lifted(self) -> Voice
         ensures { seen result ≡ on_seen lifted_voice (seen self) }
     {
@@ -106,25 +116,25 @@ impl Voice {
     pub fn aimed_at(self, note: u8, coeff: f32) -> Voice
         ensures { seen result ≡ on_seen (aimed_at coeff note) (seen self) }
     {
-        let n = Note(note);
-        let hz = n.freq();
-        let scale = hz / self.built_hz;
+        let note = Note(note);
+        let scale = note.freq() / self.built_hz;
         let mut v = self.with_copies(|copy| copy.glide_pitch(scale, coeff));
-        v.note = n;
+        v.note = note;
         v
     }
 
     // The envelope is gated on from its level, with another velocity.
+    #[tactic(auto, unfolding(crate::specs::View::seen, crate::specs::View::shown, crate::specs::Changes::on_seen, model::specs::Voices::struck_again, model::specs::Voices::with_voice))]
     fn struck_again(mut self, velocity: f32) -> Voice
         ensures { seen result ≡ on_seen (struck_again velocity) (seen self) }
     {
-        let env = self.env.gate_on();
-        self.env = env;
+        self.env = self.env.gate_on();
         self.gain = velocity;
         self
     }
 
     // The one voice of a mono instrument goes on with another note.
+    #[tactic(auto, unfolding(crate::specs::Changes::on_seen, model::specs::Notes::kept_voice))]
     pub fn kept(self, note: u8, coeff: f32, legato: bool, velocity: f32) -> Voice
         ensures { seen result ≡ on_seen (kept_voice coeff legato note velocity) (seen self) }
     {
@@ -139,28 +149,22 @@ impl Voice {
         self.handle == handle
     }
 
+    #[tactic(auto, unfolding(crate::specs::View::shown))]
     pub fn plays(self, note: u8) -> bool
         ensures { result ≡ plays_of note (shown self) }
     {
-        if self.note.0 != note {
-            return false;
-        }
-        if self.releasing {
-            return false;
-        }
-        !self.sustained
+        self.note.0 == note && !self.releasing && !self.sustained
     }
 
+    #[tactic(auto, unfolding(crate::specs::View::shown))]
     pub fn sounds_note(self, note: u8) -> bool
         ensures { result ≡ sounds_note note (shown self) }
     {
-        if self.note.0 != note {
-            return false;
-        }
-        !self.releasing
+        !self.releasing && self.note.0 == note
     }
 
     // How many copies count.
+    #[tactic(auto, unfolding(crate::specs::View::shown))]
     pub fn copies_shown(self) -> usize
         ensures { (result ≤ 8) × (result ≡ length (shown self).copies) }
     {
@@ -172,8 +176,7 @@ impl Voice {
 fn copies_of(design: InstrumentDesign) -> u8
     ensures { result ≡ copies_made design }
 {
-    let n = design.copies();
-    if n < 8 { n as u8 } else { 8 }
+    design.copies().min(8) as u8
 }
 
 // The n copies of a new voice.
@@ -190,6 +193,7 @@ fn new_copies(n: u8, width: f32, bend: f32, brightness: f32) -> [UnisonCopy; 8]
 }
 
 // A voice of a new note: its envelope is gated on, and its copies take over bend and brightness.
+#[tactic(auto, unfolding(crate::specs::View::seen, crate::specs::View::shown, crate::specs::New::made_env, crate::specs::New::made_voice))]
 pub fn new_voice(
     design: InstrumentDesign,
     bend: f32,

@@ -4,7 +4,7 @@ use Prim.Native.Nat.{ℕ, ◌<◌, ◌≤◌, ◌+◌}
 use native.Mathlib.Numerals.{add-one}
 use native.Mathlib.Omega.{arith}
 use lib.Ieee.{Float}
-use lib.ListN.{length-set, length-take, length, take, set}
+use lib.ListN.{length-take, length, take, set}
 use lib.Seq.{take_all, take-suc-set}
 use Rattle.std.proofs.Common.{take_at}
 use Rattle.stream.specs.declared.UnisonCopy.{UnisonCopy}

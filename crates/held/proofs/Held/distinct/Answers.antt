@@ -1,34 +1,33 @@
-use mathlib.Core.Path.{◌≡◌, ap, sym, ◌∙◌}
-use Prim.Native.Nat.{ℕ}
+use mathlib.Core.Path.{◌≡◌, ap, sym, ◌∙◌, refl}
+use lib.ListN.{length, take, length-take}
+use borrow.Author.Rules.{rules}
 use Rattle.lists.specs.Perms.{distinct}
-use Rattle.held.specs.View.{held_first}
 use Rattle.held.proofs.Flags.{flags-start, flags-more, flags-fail, held-least}
-use Rattle.held.proofs.Sizes.{notes-long}
 use native.Mathlib.Omega.{arith}
 use Rattle.held.proofs.Held.distinct.Goals as goal
 
-pub loop-i-init : goal.loop-i-init
-loop-i-init c = (omega arith, flags-start _ c.no_flags-seen.result c.no_flags-seen.ensures)
+pub loop-note-init : goal.loop-note-init
+loop-note-init c = flags-start _ _ refl
 
-pub returns-then-seen-x : goal.returns-then-seen-x
-returns-then-seen-x c =
-    let h = c.args.self in
-    let l = notes-long h c.well_formed.0 in
-    sym (ap distinct (sym (held-least h.count h.notes l c.min-end.result c.min-end.ensures))
-    ∙ flags-fail h.notes c.loop-i.i _ c.loop-i.seen (omega arith) c.loop-i.invariant.1
-    c.place-x.result c.place-x.ensures.0 c.place-x.ensures.1 c.min-end.result c.loop-i-test.true c.if-seen-x.true)
+pub returns-then-seen-place : goal.returns-then-seen-place
+returns-then-seen-place c =
+    let h = c.args.self.now in
+    let n = c.min-end.result in
+    let i = c.loop-note-test.true in
+    let size = length-take n h.notes in
+    sym (ap distinct (sym (held-least h.count h.notes (search rules) n n c.min-end.ensures (omega arith)))
+    ∙ flags-fail (take n h.notes) c.loop-note.note-index (record { 0 = 0 }) c.loop-note.seen (omega arith) c.loop-note.invariant _ refl (omega arith) n (omega arith) c.if-seen-place.true)
 
-pub loop-i-preserved : goal.loop-i-preserved
-loop-i-preserved c =
-    let h = c.args.self in
-    let l = notes-long h c.well_formed.0 in (
-      omega arith,
-      flags-more h.notes c.loop-i.i _ c.loop-i.seen (omega arith) c.loop-i.invariant.1 c.place-x.result c.place-x.ensures.0 c.place-x.ensures.1 c.if-seen-x.false,
-    )
+pub loop-note-preserved : goal.loop-note-preserved
+loop-note-preserved c =
+    let i = c.loop-note-test.true in
+    flags-more (take c.min-end.result c.args.self.now.notes) c.loop-note.note-index (record { 0 = 0 }) c.loop-note.seen (omega arith) c.loop-note.invariant _ refl (omega arith) c.if-seen-place.false
 
 pub returns : goal.returns
 returns c =
-    let h = c.args.self in
-    let l = notes-long h c.well_formed.0 in
-    let e : c.min-end.result ≡ c.loop-i.i = omega arith in
-    sym (ap distinct (sym (held-least h.count h.notes l c.min-end.result c.min-end.ensures) ∙ ap (λ (k : ℕ). held_first k h.notes) e) ∙ c.loop-i.invariant.1.once)
+    let h = c.args.self.now in
+    let n = c.min-end.result in
+    let i = c.loop-note-test.false in
+    let long : length h.notes ≡ 256 = search rules in
+    let size = length-take n h.notes in
+    sym (ap distinct (sym (held-least h.count h.notes long n c.loop-note.note-index c.min-end.ensures (omega arith))) ∙ c.loop-note.invariant.once)

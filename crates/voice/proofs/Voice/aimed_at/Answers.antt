@@ -22,4 +22,4 @@ aims n coeff hz x e = rw e
 
 pub returns : goal.returns
 unfolding seen shown on_seen with_voice
-returns c = ap (on_seen (noted _)) (c.with_copies-v.ensures _ (λ a b p. search rules)) ∙ aims _ _ _ _ c.freq-hz.ensures
+returns c = ap (on_seen (noted _)) (c.with_copies-v.ensures _ (λ a b p. search rules)) ∙ aims _ _ _ _ c.freq.ensures
