@@ -1,32 +1,35 @@
 -- Room for a new voice: the kill, the taking, and the voice added.
 use mathlib.Core.Path.{◌≡◌, refl, ap, sym, ◌∙◌}
-use mathlib.Core.Bool.{Bool, true, false}
+use mathlib.Core.Bool.{Bool, true, false, cond}
 use mathlib.Core.List.{List, [], ◌∷◌, ◌++◌, map-append}
 use Prim.Native.Nat.{ℕ, ◌+◌, ◌-◌, ◌*◌, ◌≤◌, ◌<◌, min}
 use native.Mathlib.Omega.{arith}
-use borrow.Author.Tests.{leb-true, leb-false, le-leb}
-use lib.Dec.{leb}
+use borrow.Author.Tests.{leb-true, leb-false, le-leb, lt-leb, lt-ltb, le-ltb, ltb-false}
+use lib.Dec.{leb, ltb}
+use Rattle.std.specs.Prelude.{Option, Some, None, unwrap_or}
+use Rattle.std.specs.List.{copy_within}
 use lib.ListN.{length, take, get_or, set, length-map, length-set, length-append, get_or-eq_default}
 use lib.Seq.{take_all}
-use Rattle.lists.specs.Choose.{both, chosen, clash}
+use Rattle.lists.specs.Choose.{both, chosen}
 use Rattle.lists.specs.Count.{count, count-all}
-use Rattle.lists.specs.Least.{lowest-none, lowest-is}
+use Rattle.lists.specs.Least.{lowest-is}
 use Rattle.lists.specs.Lone.{set_past}
 use Rattle.lists.specs.Places.{without, without-past, without-length, map-without}
 use Rattle.model.specs.Types as M
 use Rattle.model.specs.Voices.{killed_voice, any_voice, sounding, handle_at, quieter, quietest_sounding, quietest}
-use Rattle.model.specs.Notes.{full, after_kill, killed_handle, crowded, after_taking, taken_handle}
+use Rattle.model.specs.Notes.{full, after_kill, crowded, after_taking}
 use Rattle.model.proofs.Levels.{quieter-ordered}
 use Rattle.voice.specs.View.{Seen, shown, seen}
 use Rattle.voice.specs.Changes.{on_seen}
 use Rattle.voice.specs.declared.Voice.{Voice}
 use Rattle.voice.proofs.Sizes.{past_end}
-use Rattle.table.specs.View.{seen_in, voices_of, voices_in, in_room, changed_at, Holds}
-use Rattle.table.specs.Room.{reached, killed_in, taken_in, AddedAs}
+use Rattle.table.specs.View.{seen_in, voices_of, voices_in, in_room, changed_at, place_in, handle_in, Holds}
+use Rattle.table.specs.Room.{killed_in, taken_in, stolen, KilledAs, TakenAs, AddedAs}
 use Rattle.table.specs.declared.Added.{Added}
 use Rattle.table.specs.declared.Table.{Table}
 use Rattle.table.proofs.Changes.{changed-seen, room-set, room-without}
-use Rattle.table.proofs.Edits.{Shifted, shift-end, seen_size, holds_same, holds-changed}
+use Rattle.table.proofs.Edits.{seen_size, holds_same, holds-changed, holds-without}
+use Rattle.table.proofs.Searches.{some-inside, none-inside}
 use Rattle.table.proofs.Shown.{handle-at}
 
 -- ---- as the model has it
@@ -56,46 +59,9 @@ module _ (most : ℕ) (l : List Seen) where
   unfolding taken_in
   taken-room e = chosen (λ (x : List Seen). in_room x ≡ true) (crowded most (voices_of l)) _ _ (λ _. room-without (quietest (voices_of l)) l e) (λ _. e)
 
--- ---- the limits
-
-unreached : (n most : ℕ) → reached n most ≡ false → leb most n ≡ true → n ≡ 0
-unfolding reached
-unreached n most e f = by (leb 1 n) refl
-  where
-    by : (b : Bool) → leb 1 n ≡ b → n ≡ 0
-    by true p = absurd (clash true refl (rw (p, f) at e))
-    by false p = let q : n < 1 = leb-false _ _ p in omega arith
-
-pub reached-is : (n most : ℕ) → reached n most ≡ true → (1 ≤ n) × (leb most n ≡ true)
-unfolding reached
-reached-is n most e = let b = both (leb 1 n) (leb most n) e in (leb-true _ _ b.0, b.1)
-
 -- ---- the kill and the taking
 
--- a table of 64 places that holds the voices of l
-pub record Ready (l : List Seen) (r : Table) : Type 0 where
-  pub holds : Holds l r
-  pub array : length r.voices ≡ 64
-  pub few : r.count ≤ 64
-
--- the table after the kill, and the handle of the voice that was killed
-pub record Killed (most : ℕ) (l : List Seen) (r : Table) (h : ℕ) : Type 0 where
-  pub table : Ready (killed_in most l) r
-  pub handle : h ≡ killed_handle most (voices_of l)
-
--- the same of the voice that was taken out
-pub record Taken (most : ℕ) (l : List Seen) (r : Table) (h : ℕ) : Type 0 where
-  pub table : Ready (taken_in most l) r
-  pub handle : h ≡ taken_handle most (voices_of l)
-
--- past the voices there is no handle
-nobody : (l : List Seen) (k : ℕ) → length l ≤ k → handle_at k (voices_of l) ≡ 0
-nobody l k h =
-    let s = length-map l (λ (x : Seen). x.voice) in
-    let past : length (voices_of l) ≤ k = omega arith in
-    ap (λ (v : M.Voice). v.handle) (get_or-eq_default (voices_of l) M.no_voice past)
-
-module _ (most : ℕ) (r : Table) (len : length r.voices ≡ 64) (few : r.count ≤ 64) where
+module _ (r : Table) (len : length r.voices ≡ 64) (few : r.count ≤ 64) where
   abbrev l : List Seen
   l = seen_in r
 
@@ -108,96 +74,109 @@ module _ (most : ℕ) (r : Table) (len : length r.voices ≡ 64) (few : r.count 
   voices-size : length (voices_in r) ≡ r.count
   voices-size = length-map l (λ (x : Seen). x.voice) ∙ size
 
-  same : Ready l r
-  same = record { holds = holds_same r len r.count least; array = len; few = few }
+  -- the place of a voice that is found, and its handle
+  pub inside : (k q : ℕ) → Some k ≡ place_in q (voices_in r) → k < r.count
+  inside k q e = let s = some-inside q (voices_in r) k e in let n = voices-size in omega (arith, s.1)
 
-  module _ (n : ℕ) (en : n ≡ count sounding (voices_in r)) where
-    pub kill-none : reached n most ≡ false → Killed most l r 0
-    unfolding killed_in killed_handle full quietest_sounding
-    kill-none e = by (leb most n) refl
-      where
-        by : (b : Bool) → leb most n ≡ b → Killed most l r 0
-        by true f =
-            let z = unreached n most e f in
-            let k = lowest-none M.no_voice quieter sounding (voices_in r) (sym en ∙ z) ∙ voices-size in
-            let t : leb most (count sounding (voices_in r)) ≡ true = rw en at f in
-            let past : changed_at killed_voice (quietest_sounding (voices_in r)) l ≡ l = set_past l (quietest_sounding (voices_in r)) _ (let s = size in omega arith) in
-            record {
-              table = rw (t, past) same;
-              handle = rw t (sym (nobody l (quietest_sounding (voices_in r)) (let s = size in omega arith)));
-            }
-        by false f = let t : leb most (count sounding (voices_in r)) ≡ false = rw en at f in record { table = rw t same; handle = rw t }
+  named : (k q : ℕ) → Some k ≡ place_in q (voices_in r) → Some (get_or r.voices k past_end).handle ≡ handle_in q (voices_in r)
+  named k q e =
+      let s = some-inside q (voices_in r) k e in
+      rw (s.0, lt-ltb k (length (voices_in r)) s.1, handle-at r.count r.voices k (inside k q e)) refl
 
-    module _ (e : reached n most ≡ true) (k : ℕ) (ek : k ≡ quietest_sounding (voices_in r)) where
-      pub kill-inside : k < r.count
-      unfolding quietest_sounding
-      kill-inside =
-          let some = (reached-is n most e).0 in
-          let i = (lowest-is M.no_voice quieter sounding quieter-ordered (voices_in r) (omega arith)).inside in
-          let s = voices-size in
-          omega arith
+  nobody : (q : ℕ) → None ≡ place_in q (voices_in r) → None ≡ handle_in q (voices_in r)
+  nobody q e = rw (le-ltb q (length (voices_in r)) (none-inside q (voices_in r) e))
 
-      pub kill-one : (w : Voice) → seen w ≡ on_seen killed_voice (seen (get_or r.voices k past_end))
-          → Killed most l (record { voices = set r.voices k w; count = r.count }) (get_or r.voices k past_end).handle
-      unfolding killed_in killed_handle full
-      kill-one w ew =
-          let t : leb most (count sounding (voices_in r)) ≡ true = rw en at (reached-is n most e).1 in
-          record {
-            table = rw (t, ← ek) (record { holds = holds-changed r len r.count least killed_voice k w kill-inside ew; array = length-set r.voices k w ∙ len; few = few });
-            handle = rw (t, ← ek) (handle-at r.count r.voices k kill-inside);
-          }
+  module _ (most : ℕ) where
+    pub kill-none : count sounding (voices_in r) < most → KilledAs most r r None
+    unfolding killed_in full
+    kill-none h =
+        let t = lt-leb most (count sounding (voices_in r)) h in
+        record { table = rw t (holds_same r len r.count least); handle = rw t }
 
-  pub take_none : reached r.count (2 * most) ≡ false → Taken most l r 0
-  unfolding taken_in taken_handle crowded
-  take_none e = by (leb (2 * most) r.count) refl
-    where
-      by : (b : Bool) → leb (2 * most) r.count ≡ b → Taken most l r 0
-      by true f =
-          let z = unreached r.count (2 * most) e f in
-          let s = size in
-          let t : leb (2 * most) (length (voices_in r)) ≡ true = rw voices-size f in
-          let past : without (quietest (voices_in r)) l ≡ l = without-past (quietest (voices_in r)) l (omega arith) in
-          record {
-            table = rw (t, past) same;
-            handle = rw t (sym (nobody l (quietest (voices_in r)) (omega arith)));
-          }
-      by false f = let t : leb (2 * most) (length (voices_in r)) ≡ false = rw voices-size f in record { table = rw t same; handle = rw t }
-
-  module _ (e : reached r.count (2 * most) ≡ true) (k : ℕ) (ek : k ≡ quietest (voices_in r)) where
-    pub take-inside : k < r.count
-    unfolding quietest
-    take-inside =
-        let some = (reached-is r.count (2 * most) e).0 in
+    pub kill-nobody : most ≤ count sounding (voices_in r) → None ≡ place_in (quietest_sounding (voices_in r)) (voices_in r) → KilledAs most r r None
+    unfolding killed_in full
+    kill-nobody h e =
+        let q = quietest_sounding (voices_in r) in
+        let t = le-leb most (count sounding (voices_in r)) h in
+        let n = none-inside q (voices_in r) e in
         let s = voices-size in
-        let c = count-all (voices_in r) in
-        let i = (lowest-is M.no_voice quieter any_voice quieter-ordered (voices_in r) (omega arith)).inside in
-        omega arith
+        let past : changed_at killed_voice q l ≡ l = set_past l q _ (let z = size in omega arith) in
+        record { table = rw (t, past) (holds_same r len r.count least); handle = rw t (nobody q e) }
+
+    pub kill-one : most ≤ count sounding (voices_in r) → (k : ℕ) → Some k ≡ place_in (quietest_sounding (voices_in r)) (voices_in r)
+        → (w : Voice) → seen w ≡ on_seen killed_voice (seen (get_or r.voices k past_end))
+        → KilledAs most r (record { voices = set r.voices k w; count = r.count }) (Some (get_or r.voices k past_end).handle)
+    unfolding killed_in full
+    kill-one h k e w ew =
+        let q = quietest_sounding (voices_in r) in
+        let t = le-leb most (count sounding (voices_in r)) h in
+        let at = (some-inside q (voices_in r) k e).0 in
+        record { table = rw (t, at) (holds-changed r len r.count least killed_voice k w (inside k q e) ew); handle = rw t (named k q e) }
+
+  module _ (n : ℕ) where
+    pub take-none : r.count < n → TakenAs n r r None
+    take-none h =
+        let s = voices-size in
+        let t = lt-leb n (length (voices_in r)) (omega arith) in
+        record { table = rw t (holds_same r len r.count least); handle = rw t }
+
+    pub take-nobody : n ≤ r.count → None ≡ place_in (quietest (voices_in r)) (voices_in r) → TakenAs n r r None
+    take-nobody h e =
+        let q = quietest (voices_in r) in
+        let s = voices-size in
+        let t = le-leb n (length (voices_in r)) (omega arith) in
+        let m = none-inside q (voices_in r) e in
+        let past : without q l ≡ l = without-past q l (let z = size in omega arith) in
+        record { table = rw (t, past) (holds_same r len r.count least); handle = rw t (nobody q e) }
 
     -- those behind it have moved down
-    pub take-one : (u : Table) (i : ℕ) → Shifted k r.voices r.count u i → u.count ≤ i
-        → Taken most l (record { voices = u.voices; count = u.count - 1 }) (get_or r.voices k past_end).handle
-    unfolding taken_in taken_handle crowded
-    take-one u i m h =
-        let t : leb (2 * most) (length (voices_in r)) ≡ true = rw voices-size (reached-is r.count (2 * most) e).1 in
-        let c = m.count in
-        record {
-          table = rw (t, ← ek)
-              (record { holds = shift-end r len r.count least k u i m h take-inside; array = m.moved.pass.size ∙ len; few = omega arith });
-          handle = rw (t, ← ek) (handle-at r.count r.voices k take-inside);
-        }
+    pub take-one : n ≤ r.count → (k : ℕ) → Some k ≡ place_in (quietest (voices_in r)) (voices_in r)
+        → TakenAs n r (record { voices = copy_within r.voices (k + 1) r.count k; count = r.count - 1 }) (Some (get_or r.voices k past_end).handle)
+    take-one h k e =
+        let q = quietest (voices_in r) in
+        let s = voices-size in
+        let t = le-leb n (length (voices_in r)) (omega arith) in
+        let at = (some-inside q (voices_in r) k e).0 in
+        record { table = rw (t, at) (holds-without r len r.count least k (inside k q e)); handle = rw t (named k q e) }
+
+-- a kill takes no voice out
+pub killed-few : (most : ℕ) (t r : Table) (h : Option ℕ) → length t.voices ≡ 64 → t.count ≤ 64 → KilledAs most t r h → r.count ≤ 64
+unfolding killed_in
+killed-few most t r h len few a =
+    let n = a.table.count in
+    let s = size t len few in
+    let k : length (killed_in most (seen_in t)) ≡ length (seen_in t) =
+    chosen (λ (l : List Seen). length l ≡ length (seen_in t)) (full most (voices_in t)) _ _ (λ _. length-set (seen_in t) (quietest_sounding (voices_in t)) _) (λ _. refl) in
+    omega (arith, n, s, k)
 
 -- ---- the whole
 
 module _ (most : ℕ) (t : Table) (v : Voice) (n : ℕ) (s : seen_in (record { voices = t.voices; count = n }) ≡ seen_in t) where
-  pub added : (r u : Table) (x y : ℕ) (o : Added) → Killed most (seen_in (record { voices = t.voices; count = n })) r x → Taken most (seen_in r) u y
+  abbrev t' : Table
+  t' = record { voices = t.voices; count = n }
+
+  pub added : (r u : Table) (x y : Option ℕ) (o : Added) → KilledAs most t' r x → TakenAs (2 * most) r u y
       → Holds (take 64 (seen_in u ++ (seen v ∷ []))) o.table → o.killed ≡ x → o.taken ≡ y → AddedAs most t v o
+  unfolding taken_in crowded
   added r u x y o a b h ex ey =
-      let l : seen_in r ≡ killed_in most (seen_in t) = a.table.holds.seen ∙ ap (killed_in most) s in
+      let l : seen_in r ≡ killed_in most (seen_in t) = a.table.seen ∙ ap (killed_in most) s in
+      let m : voices_in r ≡ after_kill most (voices_in t) = ap voices_of l ∙ killed-voices most (seen_in t) in
+      let full_in = λ (z : List M.Voice). stolen (full most z) (quietest_sounding z) z in
+      let crowded_in = λ (z : List M.Voice). stolen (crowded most z) (quietest z) z in
       record {
-        killed = ex ∙ a.handle ∙ ap (λ (z : List Seen). killed_handle most (voices_of z)) s;
-        taken = ey ∙ b.handle ∙ ap (λ (z : List Seen). taken_handle most (voices_of z)) l ∙ ap (taken_handle most) (killed-voices most (seen_in t));
-        table = rw (b.table.holds.seen, l) at h;
+        killed = ex ∙ a.handle ∙ ap (λ (z : List Seen). full_in (voices_of z)) s;
+        taken = ey ∙ b.handle ∙ ap crowded_in m;
+        table = rw (b.table.seen, l) at h;
       }
+
+-- the handle of a voice that is stolen as the model has it, 0 for none
+pub stolen-number : (b : Bool) (k : ℕ) (vs : List M.Voice) → unwrap_or (stolen b k vs) 0 ≡ cond b (handle_at k vs) 0
+stolen-number false k vs = refl
+stolen-number true k vs = by (ltb k (length vs)) refl
+  where
+    by : (b : Bool) → ltb k (length vs) ≡ b → unwrap_or (handle_in k vs) 0 ≡ handle_at k vs
+    by true e = rw e
+    by false e = rw e (sym (ap (λ (v : M.Voice). v.handle) (get_or-eq_default vs M.no_voice (ltb-false k (length vs) e))))
 
 -- ---- with the limits of a design, from 1 to 32 voices
 

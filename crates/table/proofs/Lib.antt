@@ -5,7 +5,6 @@ pub mod Searches
 pub mod Edits
 pub mod Checks
 pub mod Handles
-pub mod Looking
 pub mod Fits
 pub mod Adding
 pub mod Each

@@ -3,16 +3,16 @@
 
 #![tactic(auto)]
 
-ghost use Rattle.std.specs.Prelude.{◌≡◌, map, [], ◌∷◌, ◌++◌, ◌≤◌, take};
-ghost use Rattle.lists.specs.Count.{one_if, count};
-ghost use Rattle.lists.specs.Least.{lowest, lowest_next};
+ghost use Rattle.std.specs.Prelude.{◌≡◌, map, [], ◌∷◌, ◌++◌, ◌≤◌, ◌*◌, take};
+ghost use Rattle.lists.specs.Count.{count};
+ghost use Rattle.lists.specs.Least.{lowest};
 ghost use Rattle.lists.specs.Places.{find_at, last_at};
 ghost use Rattle.model.specs.Types.{no_voice};
-ghost use Rattle.model.specs.Voices.{handle_at, quieter as quieter_of, quietest_sounding, quietest as quietest_of};
+ghost use Rattle.model.specs.Voices.{quieter as quieter_of, quietest_sounding, quietest as quietest_of};
 ghost use Rattle.voice.specs.View.{shown, seen};
 ghost use Rattle.voice.specs.Changes.{on_seen, Tells, Makes};
-ghost use Rattle.table.specs.View.{seen_in, voices_in, place_in, changed_at, Holds};
-ghost use Rattle.table.specs.Room.{reached as reached_of, AddedAs};
+ghost use Rattle.table.specs.View.{seen_in, voices_in, place_in, handle_in, changed_at, Holds};
+ghost use Rattle.table.specs.Room.{KilledAs, TakenAs, AddedAs};
 
 use lists::change_first;
 use voice::Voice;
@@ -28,18 +28,12 @@ pub struct Table {
     pub count: usize,
 }
 
-// A table with a voice more, and the handles of the voices killed and taken out for it, 0 for none.
+// A table with a voice more, and the handles of the voices killed and taken out for it.
 #[derive(Clone, Copy)]
 pub struct Added {
     pub table: Table,
-    pub killed: u64,
-    pub taken: u64,
-}
-
-fn one_if(b: bool) -> usize
-    ensures { result ≡ one_if b }
-{
-    if b { 1 } else { 0 }
+    pub killed: Option<u64>,
+    pub taken: Option<u64>,
 }
 
 // Whether a voice is below another by level.
@@ -51,103 +45,79 @@ fn quieter(v: Voice, w: Voice) -> bool
     float32::total_below(a.level, b.level)
 }
 
-// The quietest of the first i voices is at k, with k at i where there is none. This is its place among one more,
-// by whether that one passes the test and whether it is below the voice at k.
-fn quietest_next(i: usize, k: usize, passes: bool, under: bool) -> usize
-    requires { i ≤ 63 }
-    ensures { result ≡ lowest_next i k passes under }
-{
-    if passes {
-        if under {
-            return i;
-        }
-        return k;
-    }
-    if k != i {
-        return k;
-    }
-    i + 1
-}
-
-// Whether a limit is reached and there is a voice to steal.
-fn reached(n: usize, most: usize) -> bool
-    ensures { result ≡ reached_of n most }
-{
-    if n < 1 {
-        return false;
-    }
-    most <= n
-}
-
 impl Table {
-    // How many voices pass the test.
-    pub fn count_of<F: Fn(Voice) -> bool>(self, test: F) -> usize
-        requires { F.IsAlwaysCallable test }
-        ensures { (t : _) → Tells (F.post test) t → result ≡ count t (voices_in self) }
+    // The voices up to the count, and never past the array.
+    fn live(&self) -> &[Voice]
+        ensures { map seen result.now ≡ seen_in self.now }
     {
-        let end = self.count.min(64);
-        self.voices[..end].iter().filter(|v| test(**v)).count()
+        &self.voices[..self.count.min(64)]
+    }
+
+    // How many voices pass the test.
+    pub fn count_of<F: Fn(Voice) -> bool>(&self, test: F) -> usize
+        requires { F.IsAlwaysCallable test }
+        ensures { (t : _) → Tells (F.post test) t → result ≡ count t (voices_in self.now) }
+    {
+        self.live().iter().filter(|v| test(**v)).count()
     }
 
     // The place of the first that passes.
-    pub fn find_first<F: Fn(Voice) -> bool>(self, test: F) -> Option<usize>
+    pub fn find_first<F: Fn(Voice) -> bool>(&self, test: F) -> Option<usize>
         requires { F.IsAlwaysCallable test }
-        ensures { (t : _) → Tells (F.post test) t → result ≡ place_in (find_at t (voices_in self)) (voices_in self) }
+        ensures { (t : _) → Tells (F.post test) t
+            → result ≡ place_in (find_at t (voices_in self.now)) (voices_in self.now) }
     {
-        let end = self.count.min(64);
-        self.voices[..end].iter().position(|v| test(*v))
+        self.live().iter().position(|v| test(*v))
     }
 
     // The place of the last that passes.
-    pub fn find_last<F: Fn(Voice) -> bool>(self, test: F) -> Option<usize>
+    pub fn find_last<F: Fn(Voice) -> bool>(&self, test: F) -> Option<usize>
         requires { F.IsAlwaysCallable test }
-        ensures { (t : _) → Tells (F.post test) t → result ≡ place_in (last_at t (voices_in self)) (voices_in self) }
+        ensures { (t : _) → Tells (F.post test) t
+            → result ≡ place_in (last_at t (voices_in self.now)) (voices_in self.now) }
     {
-        let end = self.count.min(64);
-        for i in (0..end).rev() {
-            if test(self.voices[i]) {
-                return Some(i);
-            }
-        }
-        None
+        self.live().iter().rposition(|v| test(*v))
     }
 
-    // The handle at a place, 0 past the voices.
-    pub fn handle_at(self, place: usize) -> u64
-        ensures { result ≡ handle_at place (voices_in self) }
+    // The handle at a place.
+    pub fn handle_at(&self, place: usize) -> Option<u64>
+        ensures { result ≡ handle_in place (voices_in self.now) }
     {
-        if place < self.count.min(64) {
-            let v = self.voices[place];
-            return v.handle;
-        }
-        0
+        self.live().get(place).map(|v| v.handle)
     }
 
     // The first of the quietest voices that pass a test.
-    fn quietest_by<F: Fn(Voice) -> bool>(self, test: F) -> usize
+    fn quietest_by<F: Fn(Voice) -> bool>(&self, test: F) -> Option<usize>
         requires { F.IsAlwaysCallable test }
-        ensures { (t : _) → Tells (F.post test) t → result ≡ lowest no_voice quieter_of t (voices_in self) }
+        ensures { (t : _) → Tells (F.post test) t
+            → result ≡ place_in (lowest no_voice quieter_of t (voices_in self.now)) (voices_in self.now) }
     {
-        let end = self.count.min(64);
-        let mut best: usize = 0;
-        for i in 0..end {
-            let v = self.voices[i];
-            let under = quieter(v, self.voices[best]);
-            best = quietest_next(i, best, test(v), under);
+        let voices = self.live();
+        let mut best: Option<usize> = None;
+        for (i, v) in voices.iter().enumerate() {
+            if test(*v) {
+                let below = match best {
+                    Some(k) => quieter(*v, voices[k]),
+                    None => true,
+                };
+                if below {
+                    best = Some(i);
+                }
+            }
         }
         best
     }
 
     // The quietest among those not releasing.
-    pub fn quietest_sounding(self) -> usize
-        ensures { result ≡ quietest_sounding (voices_in self) }
+    pub fn quietest_sounding(&self) -> Option<usize>
+        ensures { result ≡ place_in (quietest_sounding (voices_in self.now)) (voices_in self.now) }
     {
         self.quietest_by(|v| !v.releasing)
     }
 
     // The quietest among all.
-    pub fn quietest(self) -> usize
-        ensures { result ≡ quietest_of (voices_in self) }
+    pub fn quietest(&self) -> Option<usize>
+        ensures { result ≡ place_in (quietest_of (voices_in self.now)) (voices_in self.now) }
     {
         self.quietest_by(|_| true)
     }
@@ -188,30 +158,46 @@ impl Table {
         self
     }
 
+    // Where `max` voices are not releasing the quietest of them is killed: its handle.
+    fn kill_quietest(&mut self, max: usize) -> Option<u64>
+        requires { self.old.count ≤ 64 }
+        ensures { KilledAs max self.old self.new result }
+    {
+        if self.count_of(|v| !v.releasing) < max {
+            return None;
+        }
+        let victim = self.quietest_sounding()?;
+        let voice = self.voices[victim];
+        self.voices[victim] = voice.killed();
+        Some(voice.handle)
+    }
+
+    // Where there are `max` voices the quietest is taken out, and those behind it move down: its handle.
+    fn take_quietest(&mut self, max: usize) -> Option<u64>
+        requires { self.old.count ≤ 64 }
+        ensures { TakenAs max self.old self.new result }
+    {
+        if self.count < max {
+            return None;
+        }
+        let victim = self.quietest()?;
+        let mut voices = self.voices;
+        let handle = voices[victim].handle;
+        voices.copy_within(victim + 1..self.count, victim);
+        self.voices = voices;
+        self.count -= 1;
+        Some(handle)
+    }
+
     // One voice more, for which room is made: where `max` voices are not releasing the quietest of them is killed, then
-    // where there are twice as many in all the quietest is taken out, and those behind it move down.
+    // where there are twice as many in all the quietest is taken out.
     pub fn add(mut self, voice: Voice, max: u32) -> Added
         ensures { AddedAs max self voice result }
     {
         self.count = self.count.min(64);
         let most = max as usize;
-        let mut killed: u64 = 0;
-        if reached(self.count_of(|v| !v.releasing), most) {
-            let victim = self.quietest_sounding();
-            killed = self.voices[victim].handle;
-            self.voices[victim] = self.voices[victim].killed();
-        }
-        let mut taken: u64 = 0;
-        if reached(self.count, 2 * most) {
-            let victim = self.quietest();
-            taken = self.voices[victim].handle;
-            let mut i = victim + 1;
-            while i < self.count {
-                self.voices[i - 1] = self.voices[i];
-                i += 1;
-            }
-            self.count -= 1;
-        }
+        let killed = self.kill_quietest(most);
+        let taken = self.take_quietest(2 * most);
         let table = self.push(voice);
         Added {
             table,

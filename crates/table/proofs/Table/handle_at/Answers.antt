@@ -1,14 +1,8 @@
-use Rattle.table.proofs.Searches.{handle-here, handle-past}
-use Rattle.table.proofs.Sizes.{voices-long}
-use native.Mathlib.Omega.{arith}
+use borrow.Author.Rules.{rules}
+use Rattle.table.proofs.Searches.{handle-of}
 use Rattle.table.proofs.Table.handle_at.Goals as goal
-
-pub returns-then-place-min : goal.returns-then-place-min
-returns-then-place-min c =
-    let t = c.args.self in
-    handle-here t (voices-long t c.well_formed.0) _ (omega arith)
 
 pub returns : goal.returns
 returns c =
-    let t = c.args.self in
-    handle-past t (voices-long t c.well_formed.0) _ (omega arith)
+    handle-of c.live.result.now c.args.self.now c.live.ensures c.args.place c.get.result c.get.ensures.lookup.3 c.map.result c.map.ensures.cases
+    (λ x n e. search rules)

@@ -1,21 +1,56 @@
-use Rattle.table.proofs.Searches.{best-start, best-turn, best-end, next-le}
-use Rattle.table.proofs.Sizes.{voices-long}
+use mathlib.Core.Path.{◌≡◌, sym, ◌∙◌}
+use mathlib.Core.Bool.{true≢false}
 use native.Mathlib.Omega.{arith}
+use lib.ListN.{length}
+use Rattle.table.proofs.Searches.{best-start, best-fails, best-here, best-stays, best-end}
 use Rattle.table.proofs.Table.quietest_by.Goals as goal
+use Rattle.table.proofs.Table.quietest_by.Goals.{then-test+then-below, in-Some, in-None, then-test+else-below, else-test}
 
 pub loop-i-init : goal.loop-i-init
-loop-i-init g c = (omega arith, λ t d. best-start c.args.self (voices-long c.args.self c.well_formed.0) _)
+loop-i-init g c = record { within = tt; best = λ t d. best-start t c.live-voices.result.now }
+
+pub offset_bounds-voices-k : goal.offset_bounds-voices-k
+offset_bounds-voices-k g c =
+    let k = rw c.in-Some.is at c.loop-i.invariant.within in
+    omega (arith, k, c.live-voices.type_inv.1)
+
+pub bounds-voices-k : goal.bounds-voices-k
+bounds-voices-k g c = rw c.in-Some.is at c.loop-i.invariant.within
 
 pub loop-i-preserved : goal.loop-i-preserved
 loop-i-preserved g c =
-    let t = c.args.self in
-    let low = next-le c.loop-i.i c.loop-i.best c.test.result c.quieter-under.result c.loop-i.invariant.0 in (
-      omega (arith, low, c.quietest_next-best.ensures),
-      λ p d. best-turn t (voices-long t c.well_formed.0) _ c.loop-i.best c.loop-i.i _ _ _ (c.loop-i.invariant.1 p d) (omega arith)
-          (d _ _ c.test.ensures) c.quieter-under.ensures c.quietest_next-best.ensures,
-    )
+    let vs = c.live-voices.result.now in
+    let i = c.loop-i.i in
+    let best = c.loop-i.best in
+    let h = c.loop-i-test.true in
+    record {
+      within = elim c.if-test.branch [
+        | then-test+then-below w ↦ rw w.best-is h
+        | then-test+else-below w ↦ elim w.match-best.branch [
+          | in-Some w' ↦ rw (w.best-is, w'.best-is) (rw w'.in-Some.is at c.loop-i.invariant.within)
+          | in-None w' ↦ absurd (true≢false (sym w'.below-is ∙ w.if-below.false))
+        ]
+        | else-test w ↦ rw w.best-is c.loop-i.invariant.within
+      ];
+      best = λ t d.
+          let a = c.loop-i.invariant.best t d in
+          let says = d _ _ c.test.ensures in
+          elim c.if-test.branch [
+            | then-test+then-below w ↦ rw w.best-is (best-here t vs i h (sym says ∙ w.if-test.true) best (elim w.match-best.branch [
+              | in-Some w' ↦ rw w'.in-Some.is (sym w'.quieter-below.ensures ∙ sym w'.below-is ∙ w.if-below.true)
+              | in-None w' ↦ rw w'.in-None.is tt
+            ]) a)
+            | then-test+else-below w ↦ elim w.match-best.branch [
+              | in-Some w' ↦ rw (w.best-is, w'.best-is)
+                  (best-stays t vs i h (sym says ∙ w.if-test.true) best w'.in-Some.k w'.in-Some.is (sym w'.quieter-below.ensures ∙ sym w'.below-is ∙ w.if-below.false) a)
+              | in-None w' ↦ absurd (true≢false (sym w'.below-is ∙ w.if-below.false))
+            ]
+            | else-test w ↦ rw w.best-is (best-fails t vs i h best (sym says ∙ w.if-test.false) a)
+          ];
+    }
 
 pub returns : goal.returns
 returns g c = λ p d.
-    let t = c.args.self in
-    best-end t (voices-long t c.well_formed.0) _ c.loop-i.best c.loop-i.i (c.loop-i.invariant.1 p d) (omega arith)
+    let vs = c.live-voices.result.now in
+    let e : c.loop-i.i ≡ length vs = omega arith in
+    best-end p vs c.args.self.now c.live-voices.ensures c.loop-i.best (rw e at (c.loop-i.invariant.best p d))
