@@ -2,7 +2,7 @@
 
 #![tactic(auto)]
 
-ghost use Rattle.std.specs.Prelude.{◌≡◌, true, ◌<◌, ◌≤◌, ◌*◌, ◌==◌, Ok, unwrap_or};
+ghost use Rattle.std.specs.Prelude.{◌≡◌, true, ◌<◌, ◌≤◌, ◌*◌, ◌==◌, Ok};
 ghost use Rattle.stream.specs.Pitch.{bent as bent_copy, cut_to as cut_copy};
 ghost use Rattle.design.specs.Accepted.{is_accepted, copies_of};
 ghost use Rattle.model.specs.Types.{Control, Call};
@@ -20,7 +20,7 @@ ghost use Rattle.instrument.specs.Calls.{StartAs, last_handle, barred_by, Gives,
 ghost use Rattle.instrument.specs.Levels.{StartLevels};
 ghost use Rattle.instrument.specs.Asked.{active_of, voices_of, asked_of, VoiceAs};
 
-use design::{InstrumentDesign, PlayMode, zero_design};
+use design::{InstrumentDesign, PlayMode};
 use envelope::EnvGen;
 use held::Held;
 use lists::fills;
@@ -115,10 +115,7 @@ impl Instrument {
             flt_phase: 0.0,
             trem_phase: 0.0,
             trem: scale,
-            held: Held {
-                notes: [Note(0); 256],
-                count: 0,
-            },
+            held: Held::default(),
             frames: 0,
         }
     }
@@ -126,10 +123,12 @@ impl Instrument {
     pub fn new(design: InstrumentDesign) -> Outcome<Instrument, ()>
         ensures { StartAs design result }
     {
-        let reply = design.accepted();
-        match reply {
+        match design.accepted() {
             Ok(()) => Outcome::answered(Instrument::empty(design, 1, 1.0), ()),
-            Err(refusal) => { Outcome::refused(Instrument::empty(zero_design(), 0, 0.0), refusal) }
+            Err(refusal) => {
+                let zeros = Instrument::empty(InstrumentDesign::default(), 0, 0.0);
+                Outcome::refused(zeros, refusal)
+            }
         }
     }
 }
@@ -144,13 +143,6 @@ pub fn levels_within(design: InstrumentDesign)
     ensures { StartLevels design }
 {
     times_fit(design);
-}
-
-// A handle, where 0 stands for none.
-fn named(number: u64) -> Option<u64>
-    ensures { unwrap_or result 0 ≡ number }
-{
-    if number == 0 { None } else { Some(number) }
 }
 
 // A NaN is no velocity; others lie within 0 and 1.
@@ -274,17 +266,22 @@ impl Instrument {
         if !built {
             return Outcome::answered(self, Reply::Silent(handle));
         }
-        let design = self.design;
-        let voice = new_voice(design, self.bend, self.brightness, handle, note, velocity);
-        let added = self.table.add(voice, design.max_voices);
-        let table = added.table;
-        self.table = table;
+        let voice = new_voice(
+            self.design,
+            self.bend,
+            self.brightness,
+            handle,
+            note,
+            velocity,
+        );
+        let added = self.table.add(voice, self.design.max_voices);
+        self.table = added.table;
         Outcome::answered(
             self,
             Reply::Started {
                 handle,
-                killed: named(added.killed),
-                taken: named(added.taken),
+                killed: added.killed,
+                taken: added.taken,
             },
         )
     }
@@ -303,7 +300,7 @@ impl Instrument {
         let with = self.held.with(note);
         let found = self.table.find_first(|v| !v.releasing);
         if let Some(place) = found {
-            let handle = self.table.handle_at(place);
+            let handle = self.table.voices[place].handle;
             let glide = self.design.glide;
             self.held = with;
             self.table = self
@@ -328,16 +325,15 @@ impl Instrument {
             return Outcome::answered(self, Reply::Off(false));
         }
         self.held = rest;
-        if rest.count == 0 {
+        let Some(newest) = rest.newest() else {
             let down = self.sustain;
             self.table = self.table.change_all(|v| v.off_sounding(down));
             return Outcome::answered(self, Reply::Off(true));
-        }
+        };
         let found = self.table.find_first(|v| !v.releasing);
         let Some(place) = found else {
             return Outcome::answered(self, Reply::Off(true));
         };
-        let newest = rest.newest();
         let glide = self.design.glide;
         self.table = self.table.change_at(place, |v| v.aimed_at(newest, glide));
         Outcome::answered(self, Reply::Off(true))
@@ -459,9 +455,6 @@ impl Instrument {
             return Err(Refusal::Malformed);
         }
         let found = self.table.find_first(|v| v.sounds_note(note));
-        let Some(place) = found else {
-            return Ok(None);
-        };
-        Ok(Some(self.table.handle_at(place)))
+        Ok(found.and_then(|place| self.table.handle_at(place)))
     }
 }
