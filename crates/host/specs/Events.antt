@@ -12,6 +12,8 @@ use Rattle.wire.specs.Reads.{stage_numbered, env_of}
 use Rattle.host.specs.Said.{flag_number}
 use Rattle.host.specs.declared.events.HostEnvOutcome.{HostEnvOutcome}
 use Rattle.host.specs.declared.events.HostEvent.{HostEvent}
+use Rattle.host.specs.declared.events.Kind.{Kind}
+use Rattle.host.specs.declared.events.Kind.TheVariants as kind
 
 -- "The envelope's tick also exists as a call on a record that the caller keeps": a stage that is none gives 1 and the very record
 pub record HostTickAs (e : HostEnv) (r : HostEnvOutcome) : Type 0 where
@@ -19,6 +21,17 @@ pub record HostTickAs (e : HostEnv) (r : HostEnvOutcome) : Type 0 where
   pub refused : stage_numbered e ≡ false → r.env ≡ e
   pub numbered : stage_numbered e ≡ true → stage_numbered r.env ≡ true
   pub next : stage_numbered e ≡ true → env_of r.env ≡ ticked (env_of e)
+
+-- the number of each kind of event
+abbrev pub kind_of : Kind → ℕ
+kind_of kind.Refused = 0
+kind_of kind.On = 1
+kind_of kind.Off = 2
+kind_of kind.Pedal = 3
+kind_of kind.AllOff = 4
+kind_of kind.Bend = 5
+kind_of kind.Other = 6
+kind_of kind.End = 7
 
 abbrev pub event_at : Cursor → ℕ → ℕ → ℕ → Float → ℕ → ℕ → HostEvent
 event_at c kind number note velocity down bend = record {

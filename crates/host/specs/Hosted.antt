@@ -7,7 +7,7 @@ use Rattle.design.specs.declared.InstrumentDesign.{InstrumentDesign}
 use Rattle.design.specs.Accepted.{design_reply, is_accepted}
 use Rattle.model.specs.Types.{Model, Call, Reply}
 use Rattle.model.specs.Step.{refusal, lent_to, step}
-use Rattle.model.specs.Start.{fresh, zero_state, start_of}
+use Rattle.model.specs.Start.{fresh, zero_state}
 use Rattle.model.specs.Queries.{Answer, VoiceOf}
 use Rattle.instrument.specs.declared.Instrument.{Instrument}
 use Rattle.instrument.specs.Calls as code
@@ -120,6 +120,6 @@ pub record AskedBy (post : Instrument → HostReply → Type 0) (h : HostState) 
 
 -- a start with a design that was read
 pub record BegunAs (d : InstrumentDesign) (r : HostOutcome) : Type 0 where
-  pub reply : r.reply ≡ said_start (start_of d).reply
+  pub reply : r.reply ≡ said_start (design_reply d)
   pub numbered : numbered r.state ≡ true
-  pub state : model_of r.state ≡ (start_of d).model
+  pub state : model_of r.state ≡ cond (is_accepted d) (fresh d) zero_state

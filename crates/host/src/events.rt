@@ -2,7 +2,8 @@
 
 ghost use Rattle.std.specs.Prelude.{◌≡◌};
 ghost use Rattle.midi.specs.Steps.{cursor_at, stepped};
-ghost use Rattle.host.specs.Events.{HostTickAs, event_of};
+ghost use Rattle.float32.specs.Numbers.{zero};
+ghost use Rattle.host.specs.Events.{HostTickAs, kind_of, event_at, event_of};
 
 use envelope::EnvGen;
 use midi::{Cursor, Event};
@@ -17,9 +18,22 @@ pub struct HostEnvOutcome {
     pub env: HostEnv,
 }
 
+// What a step finds, in the order of the numbers that stand for it.
+#[derive(Clone, Copy, Debug, PartialEq, Eq)]
+enum Kind {
+    Refused,
+    On,
+    Off,
+    Pedal,
+    AllOff,
+    Bend,
+    Other,
+    End,
+}
+
 // `kind`: 0 refused, 1 on, 2 off, 3 pedal, 4 all-off, 5 bend, 6 other, 7 end. What a kind does not name is 0.
 #[repr(C)]
-#[derive(Clone, Copy)]
+#[derive(Clone, Copy, Default)]
 pub struct HostEvent {
     pub kind: u32,
     // The number of the refusal.
@@ -31,6 +45,19 @@ pub struct HostEvent {
     pub down: u32,
     pub status: u8,
     pub note: u8,
+}
+
+impl HostEvent {
+    fn at(cursor: Cursor, kind: Kind) -> HostEvent
+        ensures { result ≡ event_at cursor (kind_of kind) 0 0 zero 0 0 }
+    {
+        HostEvent {
+            kind: kind as u32,
+            place: cursor.place,
+            status: cursor.status,
+            ..HostEvent::default()
+        }
+    }
 }
 
 // One frame of an envelope; a stage that is none is refused.
@@ -50,45 +77,32 @@ pub fn cirstumbe_env_tick(env: HostEnv) -> HostEnvOutcome
 fn event_of(found: Outcome<Cursor, Option<Event>>) -> HostEvent
     ensures { result ≡ event_of found }
 {
-    let unnamed = HostEvent {
-        kind: 0,
-        number: 0,
-        place: found.state.place,
-        velocity: 0.0,
-        bend: 0,
-        down: 0,
-        status: found.state.status,
-        note: 0,
-    };
+    let behind = found.state;
     match found.reply {
         Err(refusal) => HostEvent {
-            number: u32::from(refusal.number()),
-            ..unnamed
+            number: refusal.number().into(),
+            ..HostEvent::at(behind, Kind::Refused)
         },
         Ok(Some(Event::On(note, velocity))) => HostEvent {
-            kind: 1,
             note,
             velocity,
-            ..unnamed
+            ..HostEvent::at(behind, Kind::On)
         },
         Ok(Some(Event::Off(note))) => HostEvent {
-            kind: 2,
             note,
-            ..unnamed
+            ..HostEvent::at(behind, Kind::Off)
         },
         Ok(Some(Event::Pedal(down))) => HostEvent {
-            kind: 3,
-            down: u32::from(down),
-            ..unnamed
+            down: down.into(),
+            ..HostEvent::at(behind, Kind::Pedal)
         },
-        Ok(Some(Event::AllOff)) => HostEvent { kind: 4, ..unnamed },
+        Ok(Some(Event::AllOff)) => HostEvent::at(behind, Kind::AllOff),
         Ok(Some(Event::Bend(bend))) => HostEvent {
-            kind: 5,
-            bend: u32::from(bend),
-            ..unnamed
+            bend: bend.into(),
+            ..HostEvent::at(behind, Kind::Bend)
         },
-        Ok(Some(Event::Other)) => HostEvent { kind: 6, ..unnamed },
-        Ok(None) => HostEvent { kind: 7, ..unnamed },
+        Ok(Some(Event::Other)) => HostEvent::at(behind, Kind::Other),
+        Ok(None) => HostEvent::at(behind, Kind::End),
     }
 }
 

@@ -234,6 +234,7 @@ fn asked<F: FnOnce(Instrument) -> HostReply>(h: HostState, ask: F) -> HostReply
     }
 }
 
+#[tactic(auto, unfolding(model::specs::Start::start_of))]
 fn begin(design: InstrumentDesign) -> HostOutcome
     ensures { BegunAs design result }
 {
@@ -245,6 +246,7 @@ fn begin(design: InstrumentDesign) -> HostOutcome
 }
 
 // A mode that is none is a design number outside its limits, as no voices are.
+#[tactic(auto, using(crate::proofs::Laws::unfit_reply, crate::proofs::Laws::unfit_design), unfolding(crate::specs::Hosted::host_design_reply, crate::specs::Hosted::host_accepted))]
 pub fn cirstumbe_new(design: HostDesign) -> HostOutcome
     ensures { HostStartAs design result }
 {
@@ -326,11 +328,10 @@ fn mix_outcome(h: HostState, made: Outcome<Instrument, Report>) -> HostMixOutcom
 {
     match made.reply {
         Ok(report) => {
-            let count = report.count;
             let ended = report.ended;
             HostMixOutcome {
                 reply: HostReply {
-                    count,
+                    count: report.count,
                     ..Kind::Mixed.into()
                 },
                 ended,
@@ -360,12 +361,14 @@ pub fn cirstumbe_mix(h: HostState, samples: &[f32], out: &mut [f32]) -> HostMixO
     }
 }
 
+#[tactic(auto, unfolding(crate::specs::Hosted::host_asked, instrument::specs::Asked::asked_of))]
 pub fn cirstumbe_is_active(h: HostState, handle: u64) -> HostReply
     ensures { result ≡ said_answer (host_asked h (is_active (model_of h) handle)) }
 {
     asked(h, |s| s.is_active(handle).into())
 }
 
+#[tactic(auto, unfolding(crate::specs::Hosted::host_asked, instrument::specs::Asked::asked_of))]
 pub fn cirstumbe_active_voices(h: HostState) -> HostReply
     ensures { result ≡ said_answer (host_asked h (active_voices (model_of h))) }
 {

@@ -39,7 +39,7 @@ use Rattle.table.proofs.Changes.{map-seen, changed-seen, room-map, room-set}
 use Rattle.held.specs.View.{held_in}
 use Rattle.held.specs.declared.Held.{Held}
 use Rattle.instrument.specs.View.{view, roomy, counted, formed}
-use Rattle.instrument.specs.Calls.{Called, reply_of, refusal_of, reply_to, CallAs, Gives, answered_as, refused_as, barred_in, barred_by, placed_as, tuned_as, StepAs}
+use Rattle.instrument.specs.Calls.{Called, reply_of, refusal_of, reply_to, CallAs, Gives, answered_as, refused_as, barred_by, placed_as, tuned_as, StepAs}
 use Rattle.instrument.specs.declared.Instrument.{Instrument}
 use Rattle.instrument.specs.declared.Reply.{Reply}
 
@@ -76,10 +76,6 @@ passed (Err r) h = absurd (h r refl)
 
 -- ---- what bars a call
 
--- by the answers of check 1 and of `barred`
-pub barred-by : (s : Instrument) (b : Bool) (x : Result (Unit {0}) Refusal) → b ≡ formed s → x ≡ barred_in b s.frames → x ≡ barred_by s
-barred-by s b x e f = f ∙ ap (λ (y : Bool). barred_in y s.frames) e
-
 -- what not being barred says
 pub record Free (s : Instrument) : Type 0 where
   pub formed : formed s ≡ true
@@ -88,7 +84,7 @@ pub record Free (s : Instrument) : Type 0 where
   pub closed : s.frames ≡ 0
 
 pub free : (s : Instrument) → barred_by s ≡ Ok tt → Free s
-unfolding barred_in formed
+unfolding barred_by formed
 free s e = by (formed s) refl (eqb s.frames 0) refl
   where
     by : (a : Bool) → formed s ≡ a → (b : Bool) → eqb s.frames 0 ≡ b → Free s
@@ -96,14 +92,14 @@ free s e = by (formed s) refl (eqb s.frames 0) refl
     by true p false q = let z : ◌≡◌ {A = ℕ} 5 0 = ap number_in (rw (p, q) at e) in let n : ⊥ = omega arith in absurd n
     by false p b q = let z : ◌≡◌ {A = ℕ} 1 0 = ap number_in (rw p at e) in let n : ⊥ = omega arith in absurd n
 
--- by the answers again
-pub free-by : (s : Instrument) (b : Bool) (x : Result (Unit {0}) Refusal) → b ≡ formed s → x ≡ barred_in b s.frames → ((r : Refusal) → x ≡ Err r → ⊥) → Free s
-free-by s b x e f h = free s (sym (barred-by s b x e f) ∙ passed x h)
+-- by the answer of `barred`
+pub free-by : (s : Instrument) (x : Result (Unit {0}) Refusal) → x ≡ barred_by s → ((r : Refusal) → x ≡ Err r → ⊥) → Free s
+free-by s x e h = free s (sym e ∙ passed x h)
 
 module _ (s : Instrument) (c : M.Call) where
   -- a state that bars the call gives its number
   bars : is_mix c ≡ false → (barred_by s ≡ Ok tt → ⊥) → refusal_of s c ≡ number_in (barred_by s)
-  unfolding barred_in refusal_of refusal formed block_open no_block view
+  unfolding barred_by refusal_of refusal formed block_open no_block view
   bars m n = by (counted s) refl (well_formed (view s)) refl (eqb s.frames 0) refl
     where
       by : (a : Bool) → counted s ≡ a → (b : Bool) → well_formed (view s) ≡ b → (d : Bool) → eqb s.frames 0 ≡ d → refusal_of s c ≡ number_in (barred_by s)
@@ -240,9 +236,9 @@ module _ (s : Instrument) (e : counted s ≡ true) where
 
 -- ---- a call that its state bars, one that is free, and the state that follows
 
-pub barred-call : (s : Instrument) (c : M.Call) (b : Bool) (x : Result (Unit {0}) Refusal) (refusal : Refusal) (r : Called) → is_mix c ≡ false
-    → b ≡ formed s → x ≡ barred_in b s.frames → x ≡ Err refusal → r ≡ refused_as s refusal → CallAs s c r
-barred-call s c b x refusal r m e f w q = rw q (refused-call s c refusal (bar-number s c x refusal m (barred-by s b x e f) w))
+pub barred-call : (s : Instrument) (c : M.Call) (x : Result (Unit {0}) Refusal) (refusal : Refusal) (r : Called) → is_mix c ≡ false
+    → x ≡ barred_by s → x ≡ Err refusal → r ≡ refused_as s refusal → CallAs s c r
+barred-call s c x refusal r m e w q = rw q (refused-call s c refusal (bar-number s c x refusal m e w))
 
 pub control-call : (s : Instrument) (x : M.Control) (r : Called) → Free s → Gives (controlled (view s) x) r → CallAs s (M.Call.control x) r
 unfolding handles_spent

@@ -21,7 +21,7 @@ use Rattle.table.specs.Check.{voice_fits, mode_agrees, table_fits}
 use Rattle.table.proofs.Each.{four, copies-even, fits-copies}
 use Rattle.held.specs.View.{number_of_note, held_in}
 use Rattle.instrument.specs.declared.Instrument.{Instrument}
-use Rattle.instrument.specs.View.{view, roomy, counted, formed, numbers_fit}
+use Rattle.instrument.specs.View.{view, roomy, counted, formed}
 
 -- a table has as many voices as it counts
 pub voices-count : (s : Instrument) → s.table.count ≤ length s.table.voices → length (voices_in s.table) ≡ s.table.count
@@ -123,45 +123,56 @@ module _ (s : Instrument) (lv : length s.table.voices ≡ 64) (lh : length s.hel
       (and_i c.1
       (and_i p.held_once m))))))))))
 
-  -- as the code asks: the numbers, the table, the held notes
-  abbrev asked : Bool
+  -- as the code asks
+  abbrev pub asked : Bool
   asked =
-      numbers_fit s.design s.table.count s.held.count s.next_handle s.frames
-      && (table_fits s.design s.next_handle s.held.count (seen_in s.table) && distinct (held_in s.held))
+      leb s.table.count (length s.table.voices)
+      && (leb s.held.count (length s.held.notes)
+      && (is_accepted s.design
+      && (leb s.table.count (2 * s.design.max_voices)
+      && (leb 1 s.next_handle
+      && (block_fits s.design s.frames
+      && (table_fits s.design s.next_handle s.held.count (seen_in s.table)
+      && distinct (held_in s.held)))))))
 
   asked-parts : asked ≡ true → Parts s
-  unfolding numbers_fit table_fits
+  unfolding table_fits
   asked-parts e =
       let vs = voices_in s.table in
-      let n = both (numbers_fit s.design s.table.count s.held.count s.next_handle s.frames) _ e in
-      let a = both (leb s.table.count 64) _ n.0 in
-      let b = both (leb s.held.count 256) _ a.1 in
+      let a = both (leb s.table.count (length s.table.voices)) _ e in
+      let b = both (leb s.held.count (length s.held.notes)) _ a.1 in
       let c = both (is_accepted s.design) _ b.1 in
       let d = both (leb s.table.count (2 * s.design.max_voices)) _ c.1 in
-      let f = both (leb 1 s.next_handle) (block_fits s.design s.frames) d.1 in
-      let t = both (table_fits s.design s.next_handle s.held.count (seen_in s.table)) (distinct (held_in s.held)) n.1 in
+      let f = both (leb 1 s.next_handle) _ d.1 in
+      let g = both (block_fits s.design s.frames) _ f.1 in
+      let t = both (table_fits s.design s.next_handle s.held.count (seen_in s.table)) (distinct (held_in s.held)) g.1 in
       let k = both (leb (count sounding vs) s.design.max_voices) _ t.0 in
       let l = both (mode_agrees s.design.mode s.held.count (count sounding vs)) _ k.1 in
       let m = both (all (voice_fits s.next_handle (copies_of s.design)) (seen_in s.table)) (distinct (handles vs)) l.1 in
       record {
-        voices64 = leb-true _ 64 a.0;
-        held256 = leb-true _ 256 b.0;
+        voices64 = leb-true _ 64 (rw lv at a.0);
+        held256 = leb-true _ 256 (rw lh at b.0);
         design = c.0;
         size = leb-true _ _ d.0;
         sounds = leb-true _ _ k.0;
         begun = leb-true 1 _ f.0;
         fits = m.0;
         once = m.1;
-        block = f.1;
+        block = g.0;
         held_once = t.1;
         mode = l.0;
       }
 
   parts-asked : Parts s → asked ≡ true
-  unfolding numbers_fit table_fits
+  unfolding table_fits
   parts-asked p =
-      and_i (and_i (le-leb _ 64 p.voices64) (and_i (le-leb _ 256 p.held256) (and_i p.design (and_i (le-leb _ _ p.size) (and_i (le-leb 1 _ p.begun) p.block)))))
-      (and_i (and_i (le-leb _ _ p.sounds) (and_i p.mode (and_i p.fits p.once))) p.held_once)
+      and_i (rw lv (le-leb _ 64 p.voices64))
+      (and_i (rw lh (le-leb _ 256 p.held256))
+      (and_i p.design
+      (and_i (le-leb _ _ p.size)
+      (and_i (le-leb 1 _ p.begun)
+      (and_i p.block
+      (and_i (and_i (le-leb _ _ p.sounds) (and_i p.mode (and_i p.fits p.once))) p.held_once))))))
 
   pub asked-formed : asked ≡ formed s
   asked-formed = same asked (formed s) (λ e. formed-of (asked-parts e)) (λ e. parts-asked (parts-of e))

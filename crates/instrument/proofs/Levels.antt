@@ -1,5 +1,5 @@
 -- The levels from a start: an accepted design starts fresh, and its times fit.
-use mathlib.Core.Path.{ap, sym, ◌∙◌}
+use mathlib.Core.Path.{sym, ◌∙◌}
 use Rattle.lists.specs.Choose.{cond-true}
 use Rattle.design.specs.declared.InstrumentDesign.{InstrumentDesign}
 use Rattle.model.specs.Start.{start_of}

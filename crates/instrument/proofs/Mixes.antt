@@ -77,7 +77,7 @@ module _ (s : Instrument) (xs out : List Float) (lv : length s.table.voices ≡ 
   abbrev call : M.Call
   call = M.Call.mix xs out
 
-  pub mix-number : formed s ≡ true → number_in (mix_fits s.design s.frames s.table.count (length xs) (length out)) ≡ refusal_of s call
+  pub mix-number : formed s ≡ true → number_in (mix_fits s (length xs) (length out)) ≡ refusal_of s call
   unfolding refusal_of refusal formed mix_fits block_open block_missing no_block handles_spent view
   mix-number e =
       let w = both (counted s) (well_formed (view s)) e in

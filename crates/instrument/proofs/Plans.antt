@@ -1,22 +1,20 @@
 -- The ways out of Plan and of its parts.
 use Rattle.std.specs.Prelude.{Ok, Err}
-use mathlib.Core.Path.{◌≡◌, refl, ap, sym, ◌∙◌, fun_ext}
+use mathlib.Core.Path.{◌≡◌, refl, ap, sym, ◌∙◌}
 use mathlib.Core.Bool.{Bool, true, false, not, cond}
 use mathlib.Core.List.{List, map}
 use Prim.Native.Nat.{ℕ, ◌*◌, ◌≤◌, ◌^◌}
 use native.Mathlib.Omega.{arith}
 use borrow.Author.Tests.{leb-true, eq-eqb, ne_eqb, eqb-true, eqb-false, not-false}
 use lib.Dec.{T, leb, eqb, le→leb}
-use lib.Ieee.{Float, binary32, mul, lt, in_float}
+use lib.Ieee.{Float, binary32, mul, in_float}
 use lib.IntN.{pos}
 use lib.ListN.{length}
 use Rattle.lists.specs.Choose.{both, cond-true, cond-false}
-use Rattle.float32.specs.Numbers.{zero as +0}
 use Rattle.outcome.specs.declared.Refusal.{Refusal}
 use Rattle.outcome.specs.declared.Refusal.TheVariants.{Frames, LentLength}
 use Rattle.outcome.specs.Numbers.{number_of}
-use Rattle.stream.specs.declared.UnisonCopy.{UnisonCopy}
-use Rattle.stream.specs.Pitch.{bent, cut_to, glided}
+use Rattle.stream.specs.Pitch.{glided}
 use Rattle.design.specs.declared.InstrumentDesign.{InstrumentDesign}
 use Rattle.design.specs.Accepted.{is_accepted, modulated, copies_of}
 use Rattle.envelope.specs.Start.{rate_fits}
@@ -62,7 +60,7 @@ frames-float n h = le→leb n (2 ^ 24) (omega arith)
 
 module _ (s : Instrument) (n : ℕ) (vibrato filter sine : Float) (curve : List Float) (lv : length s.table.voices ≡ 64) (lh : length s.held.notes ≡ 256) where
   -- nothing bars the call
-  pub plan-number : Free s → number_in (plan_fits s.design n s.table.count (length curve)) ≡ refusal_of s (M.Call.plan n vibrato filter sine curve)
+  pub plan-number : Free s → number_in (plan_fits s n (length curve)) ≡ refusal_of s (M.Call.plan n vibrato filter sine curve)
   unfolding refusal_of refusal block_open block_missing no_block handles_spent view plan_fits
   plan-number f = rw (f.counted, f.well, eq-eqb s.frames 0 f.closed, table-copies s lv lh f.formed)
       (by (frames_fit s.design n) (n * (s.table.count * copies_of s.design)) (length curve))

@@ -1,10 +1,11 @@
 -- The ways out of the queries.
-use Rattle.std.specs.Prelude.{Option, None, Some, Ok, Err}
+use Rattle.std.specs.Prelude.{Option, None, Some, Ok, Err, MatchOption}
 use Rattle.std.specs.Option.{is_some}
-use mathlib.Core.Path.{◌≡◌, refl, ap, sym}
+use mathlib.Core.Path.{◌≡◌, refl, ap, ◌∙◌}
 use mathlib.Core.Bool.{Bool, true, false, cond}
 use Prim.Native.Nat.{ℕ, ◌≤◌, ◌<◌}
 use native.Mathlib.Omega.{arith}
+use borrow.Author.Tests.{lt-ltb}
 use lib.Dec.{ltb}
 use lib.ListN.{length}
 use Rattle.lists.specs.Choose.{both}
@@ -16,16 +17,15 @@ use Rattle.model.specs.Formed.{well_formed}
 use Rattle.model.specs.Queries as Q
 use Rattle.model.specs.Queries.{is_active, active_voices, sounds_note, VoiceOf}
 use Rattle.model.specs.Voices.{is_place, place_of, has_handle, handle_at}
-use Rattle.table.specs.View.{voices_in, place_in}
+use Rattle.table.specs.View.{voices_in, place_in, handle_in}
+use Rattle.table.proofs.Searches.{none-inside, some-inside}
 use Rattle.instrument.specs.View.{view, counted, formed}
 use Rattle.instrument.specs.Asked.{asked_of, VoiceAs}
 use Rattle.instrument.specs.declared.Instrument.{Instrument}
-use Rattle.instrument.proofs.Calls.{counts}
-use Rattle.instrument.proofs.Formed.{voices-count}
 
-some-inside : (b : Bool) (k : ℕ) → is_some (cond b (Some k) None) ≡ b
-some-inside true k = refl
-some-inside false k = refl
+some-in : (b : Bool) (k : ℕ) → is_some (cond b (Some k) None) ≡ b
+some-in true k = refl
+some-in false k = refl
 
 -- a state that is not well formed, on its counts or on what it stands for
 module _ (s : Instrument) (e : formed s ≡ false) where
@@ -51,43 +51,51 @@ module _ (s : Instrument) (e : formed s ≡ false) where
   voice-refused n = record { in_room = λ p. ((rw p at e), refl); beyond = λ _. refl }
 
 -- a state that is well formed
-module _ (s : Instrument) (e : formed s ≡ true) (lv : length s.table.voices ≡ 64) where
-  pub fine : (counted s ≡ true) × (well_formed (view s) ≡ true)
+module _ (s : Instrument) (e : formed s ≡ true) where
+  fine : (counted s ≡ true) × (well_formed (view s) ≡ true)
   unfolding formed
   fine = both (counted s) (well_formed (view s)) e
-
-  long : s.table.count ≤ length s.table.voices
-  long = let k = (counts s fine.0).voices64 in omega arith
 
   pub active-found : (h : ℕ) (o : Option ℕ) (b : Bool) → o ≡ place_in (find_at (has_handle h) (voices_in s.table)) (voices_in s.table) → b ≡ is_some o
       → Q.Answer.active b ≡ asked_of s (is_active (view s) h)
   unfolding asked_of is_active is_place place_of view
-  active-found h o b q e = rw (fine.0, fine.1, e, q) (ap Q.Answer.active (some-inside (ltb (find_at (has_handle h) (voices_in s.table)) (length (voices_in s.table))) _))
+  active-found h o b q e = rw (fine.0, fine.1, e, q) (ap Q.Answer.active (some-in (ltb (find_at (has_handle h) (voices_in s.table)) (length (voices_in s.table))) _))
 
-  pub voices-found : Q.Answer.voices s.table.count ≡ asked_of s (active_voices (view s))
+  pub voices-found : (n : ℕ) → n ≡ length (voices_in s.table) → Q.Answer.voices n ≡ asked_of s (active_voices (view s))
   unfolding asked_of active_voices view
-  voices-found = rw (fine.0, fine.1, voices-count s long)
+  voices-found n h = rw (fine.0, fine.1, h)
 
-  module _ (n k : ℕ) (q : k ≡ find_at (sounds_note n) (voices_in s.table)) where
-    pub voice-none : s.table.count ≤ k → VoiceAs s n (Ok None)
+  module _ (n : ℕ) where
+    abbrev at : ℕ
+    at = find_at (sounds_note n) (voices_in s.table)
+
+    voice-none : length (voices_in s.table) ≤ at → VoiceAs s n (Ok None)
     unfolding VoiceOf view
     voice-none h =
-        let l = voices-count s long in
         record { in_room = λ _. (fine.1, find-missed (sounds_note n) (voices_in s.table) (omega arith)); beyond = λ x. absurd (x fine.0) }
 
-    pub voice-some : (a : ℕ) → a ≡ handle_at k (voices_in s.table) → k < s.table.count → VoiceAs s n (Ok (Some a))
+    voice-some : at < length (voices_in s.table) → VoiceAs s n (Ok (Some (handle_at at (voices_in s.table))))
     unfolding VoiceOf view
-    voice-some a e h =
-        let l = voices-count s long in
+    voice-some h =
         record {
           in_room = λ _. (
             fine.1,
             record {
-              place = k;
-              inside = omega arith;
-              names = sym e;
-              sounds = rw q (find-passes (sounds_note n) M.no_voice (voices_in s.table) (omega arith));
+              place = at;
+              inside = h;
+              names = refl;
+              sounds = find-passes (sounds_note n) M.no_voice (voices_in s.table) (omega arith);
             },
           );
           beyond = λ x. absurd (x fine.0);
         }
+
+    -- the handle where the search found a place
+    pub voice-found : (o r : Option ℕ) (P : ℕ → Type 0) → o ≡ place_in at (voices_in s.table)
+        → MatchOption o (r ≡ None) P → ((k : ℕ) → P k → r ≡ handle_in k (voices_in s.table)) → VoiceAs s n (Ok r)
+    voice-found None r P e m f = rw m (voice-none (none-inside at (voices_in s.table) e))
+    voice-found (Some k) r P e m f =
+        let p = some-inside at (voices_in s.table) k e in
+        let h : at < length (voices_in s.table) = rw p.0 p.1 in
+        let q : r ≡ Some (handle_at at (voices_in s.table)) = f k m ∙ rw (← p.0, lt-ltb at (length (voices_in s.table)) h) refl in
+        rw q (voice-some h)

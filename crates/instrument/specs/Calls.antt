@@ -74,12 +74,9 @@ answered_as reply s = record { state = s; reply = Ok reply }
 abbrev pub refused_as : Instrument → Refusal → Called
 refused_as s refusal = record { state = s; reply = Err refusal }
 
--- what bars a call other than Mix, by check 1 and the frames of the open block: refusal 1, then 5
-unfoldable pub barred_in : Bool → ℕ → Result (Unit {0}) Refusal
-barred_in formed frames = cond formed (cond (eqb frames 0) (Ok tt) (Err BlockOpen)) (Err Malformed)
-
-abbrev pub barred_by : Instrument → Result (Unit {0}) Refusal
-barred_by s = barred_in (formed s) s.frames
+-- what bars a call other than Mix: refusal 1, then 5
+unfoldable pub barred_by : Instrument → Result (Unit {0}) Refusal
+barred_by s = cond (formed s) (cond (eqb s.frames 0) (Ok tt) (Err BlockOpen)) (Err Malformed)
 
 -- the largest next handle: none is left
 abbrev pub last_handle : ℕ

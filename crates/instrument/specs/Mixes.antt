@@ -4,7 +4,6 @@ use Rattle.outcome.specs.declared.Outcome.{Outcome}
 use Rattle.outcome.specs.declared.Refusal.{Refusal}
 use Rattle.outcome.specs.declared.Refusal.TheVariants.{NoBlock, LentLength}
 use Rattle.outcome.specs.Numbers.{number_of}
-use Rattle.design.specs.declared.InstrumentDesign.{InstrumentDesign}
 use Rattle.design.specs.Accepted.{copies_of}
 use Rattle.model.specs.Types as model
 use Rattle.instrument.specs.Calls.{lent_of, StepAs}
@@ -23,8 +22,8 @@ pub record MixAs (s : Instrument) (samples old new : List Float) (r : Outcome In
 
 -- ---- the parts
 
--- whether a well formed state with so many voices mixes so many samples into so many places: refusal 6, then 7
-unfoldable pub mix_fits : InstrumentDesign → ℕ → ℕ → ℕ → ℕ → Result (Unit {0}) Refusal
-mix_fits d frames voices samples places =
-    cond (eqb frames 0) (Err NoBlock)
-    (cond (eqb (frames * (voices * copies_of d)) samples && eqb (2 * frames) places) (Ok tt) (Err LentLength))
+-- whether a well formed state mixes so many samples into so many places: refusal 6, then 7
+unfoldable pub mix_fits : Instrument → ℕ → ℕ → Result (Unit {0}) Refusal
+mix_fits s samples places =
+    cond (eqb s.frames 0) (Err NoBlock)
+    (cond (eqb (s.frames * (s.table.count * copies_of s.design)) samples && eqb (2 * s.frames) places) (Ok tt) (Err LentLength))

@@ -2,7 +2,7 @@
 
 #![tactic(auto)]
 
-ghost use Rattle.std.specs.Prelude.{◌≡◌, true, ◌<◌, ◌≤◌, ◌*◌, ◌==◌, Ok, unwrap_or};
+ghost use Rattle.std.specs.Prelude.{◌≡◌, true, ◌<◌, ◌≤◌, ◌*◌, ◌==◌, Ok};
 ghost use Rattle.stream.specs.Pitch.{bent as bent_copy, cut_to as cut_copy};
 ghost use Rattle.design.specs.Accepted.{is_accepted, copies_of};
 ghost use Rattle.model.specs.Types.{Control, Call};
@@ -15,12 +15,12 @@ ghost use Rattle.model.specs.Notes.{mono_off, velocity_of, new_note, mono_on, ne
 ghost use Rattle.model.specs.Voices.{with_copies};
 ghost use Rattle.voice.specs.View.{seen};
 ghost use Rattle.voice.specs.Changes.{on_seen};
-ghost use Rattle.instrument.specs.View.{view, counted, numbers_fit, formed as formed_state};
-ghost use Rattle.instrument.specs.Calls.{StartAs, last_handle, barred_in, barred_by, Gives, OnAs, CallAs};
+ghost use Rattle.instrument.specs.View.{view, counted, formed as formed_state};
+ghost use Rattle.instrument.specs.Calls.{StartAs, last_handle, barred_by, Gives, OnAs, CallAs};
 ghost use Rattle.instrument.specs.Levels.{StartLevels};
 ghost use Rattle.instrument.specs.Asked.{active_of, voices_of, asked_of, VoiceAs};
 
-use design::{InstrumentDesign, PlayMode, zero_design};
+use design::{InstrumentDesign, PlayMode};
 use envelope::EnvGen;
 use held::Held;
 use lists::fills;
@@ -83,84 +83,24 @@ pub struct Report {
     pub ended: [u64; 64],
 }
 
-fn is_accepted(design: InstrumentDesign) -> bool
-    ensures { result ≡ is_accepted design }
-{
-    let reply = design.accepted();
-    match reply {
-        Ok(_) => true,
-        Err(_) => false,
-    }
-}
-
-// Whether a block may have so many frames: fewer where the modulation is active.
-#[tactic(auto, unfolding(model::specs::Formed::frames_fit))]
-fn frames_fit(design: InstrumentDesign, frames: usize) -> bool
-    ensures { result ≡ frames_fit design frames }
-{
-    let modulation = design.modulation;
-    let most = if modulation.is_active() { 64 } else { 1024 };
-    1 <= frames && frames <= most
-}
-
-#[tactic(auto, unfolding(model::specs::Formed::block_fits))]
-fn block_fits(design: InstrumentDesign, frames: usize) -> bool
-    ensures { result ≡ block_fits design frames }
-{
-    frames == 0 || frames_fit(design, frames)
-}
-
-// Whether a lent list has a place for each frame of every copy. In a well formed table every voice has the design's copies.
-fn copies_fill(design: InstrumentDesign, frames: usize, voices: usize, len: usize) -> bool
-    requires { voices ≤ 64 }
-    ensures { result ≡ frames * (voices * copies_of design) == len }
-{
-    fills(frames, voices * (design.copies() as usize), len)
-}
-
-// Check 1, the counts, the design, the next handle and the block.
-#[tactic(auto, unfolding(crate::specs::View::numbers_fit))]
-fn numbers_fit(
-    design: InstrumentDesign,
-    voices: usize,
-    held: usize,
-    next: u64,
-    frames: usize,
-) -> bool
-    ensures { result ≡ numbers_fit design voices held next frames }
-{
-    voices <= 64
-        && held <= 256
-        && is_accepted(design)
-        && voices <= 2 * (design.max_voices as usize)
-        && 1 <= next
-        && block_fits(design, frames)
-}
-
-// A voice that stands in no table.
-fn no_voice() -> Voice {
-    let made = EnvGen::new(0.0, 0.0, 0.0, 0.0, 0);
-    let env = made.state;
-    Voice {
-        handle: 0,
-        note: Note(0),
-        copies: [UnisonCopy::new(0, 1, 0.0); 8],
-        copy_count: 0,
-        built_hz: 0.0,
-        env,
-        gain: 0.0,
-        releasing: false,
-        sustained: false,
-    }
-}
-
 impl Instrument {
     // A state with no voice and nothing held.
     #[tactic(auto, unfolding(crate::specs::View::view, crate::specs::View::roomy, crate::specs::View::counted))]
     fn empty(design: InstrumentDesign, next_handle: u64, scale: f32) -> Instrument
         ensures { (counted result ≡ true) × (view result ≡ empty_state design next_handle scale) }
     {
-        let voice = no_voice();
+        // What stands past the count means nothing.
+        let voice = Voice {
+            handle: 0,
+            note: Note(0),
+            copies: [UnisonCopy::new(0, 1, 0.0); 8],
+            copy_count: 0,
+            built_hz: 0.0,
+            env: EnvGen::default(),
+            gain: 0.0,
+            releasing: false,
+            sustained: false,
+        };
         Instrument {
             design,
             table: Table {
@@ -175,10 +115,7 @@ impl Instrument {
             flt_phase: 0.0,
             trem_phase: 0.0,
             trem: scale,
-            held: Held {
-                notes: [Note(0); 256],
-                count: 0,
-            },
+            held: Held::default(),
             frames: 0,
         }
     }
@@ -186,10 +123,12 @@ impl Instrument {
     pub fn new(design: InstrumentDesign) -> Outcome<Instrument, ()>
         ensures { StartAs design result }
     {
-        let reply = design.accepted();
-        match reply {
+        match design.accepted() {
             Ok(()) => Outcome::answered(Instrument::empty(design, 1, 1.0), ()),
-            Err(refusal) => { Outcome::refused(Instrument::empty(zero_design(), 0, 0.0), refusal) }
+            Err(refusal) => {
+                let zeros = Instrument::empty(InstrumentDesign::default(), 0, 0.0);
+                Outcome::refused(zeros, refusal)
+            }
         }
     }
 }
@@ -206,37 +145,16 @@ pub fn levels_within(design: InstrumentDesign)
     times_fit(design);
 }
 
-// What bars a call other than Mix: by check 1 and the frames of the open block.
-#[tactic(auto, unfolding(crate::specs::Calls::barred_in))]
-fn barred(formed: bool, frames: usize) -> Result<(), Refusal>
-    ensures { result ≡ barred_in formed frames }
-{
-    if !formed {
-        return Err(Refusal::Malformed);
-    }
-    if frames == 0 {
-        Ok(())
-    } else {
-        Err(Refusal::BlockOpen)
-    }
-}
-
-// A handle, where 0 stands for none.
-fn named(number: u64) -> Option<u64>
-    ensures { unwrap_or result 0 ≡ number }
-{
-    if number == 0 { None } else { Some(number) }
-}
-
 // A NaN is no velocity; others lie within 0 and 1.
 #[tactic(auto, unfolding(model::specs::Notes::velocity_of))]
 fn velocity_of(velocity: f32) -> f32
     ensures { result ≡ velocity_of velocity }
 {
     if float32::is_nan(velocity) {
-        return 0.0;
+        0.0
+    } else {
+        float32::clamp(velocity, 0.0, 1.0)
     }
-    float32::clamp(velocity, 0.0, 1.0)
 }
 
 // Every copy of a voice bent, and given a cutoff.
@@ -253,20 +171,69 @@ fn cut_to(v: Voice, cutoff: f32) -> Voice
 }
 
 impl Instrument {
-    // Check 1.
-    pub fn well_formed(self) -> bool
-        ensures { result ≡ formed_state self }
+    // Whether a block may have so many frames: fewer where the modulation is active.
+    #[tactic(auto, unfolding(model::specs::Formed::frames_fit))]
+    fn frames_fit(&self, frames: usize) -> bool
+        ensures { result ≡ frames_fit self.now.design frames }
     {
-        let design = self.design;
-        let held = self.held.count;
-        numbers_fit(
-            design,
-            self.table.count,
-            held,
-            self.next_handle,
-            self.frames,
-        ) && self.table.fits(design, self.next_handle, held)
+        let most = if self.design.modulation.is_active() {
+            64
+        } else {
+            1024
+        };
+        1 <= frames && frames <= most
+    }
+
+    #[tactic(auto, unfolding(model::specs::Formed::block_fits))]
+    fn block_fits(&self, frames: usize) -> bool
+        ensures { result ≡ block_fits self.now.design frames }
+    {
+        frames == 0 || self.frames_fit(frames)
+    }
+
+    // Whether a lent list has a place for each frame of every copy. In a well formed table every voice has the design's copies.
+    fn copies_fill(&self, frames: usize, len: usize) -> bool
+        requires { self.now.table.count ≤ 64 }
+        ensures { result ≡ frames * (self.now.table.count * copies_of self.now.design) == len }
+    {
+        fills(
+            frames,
+            self.table.count * (self.design.copies() as usize),
+            len,
+        )
+    }
+
+    // Check 1.
+    #[tactic(auto, using(crate::proofs::Parts::accepted_is))]
+    pub fn well_formed(&self) -> bool
+        ensures { result ≡ formed_state self.now }
+    {
+        let voices = &self.table.voices[..];
+        let notes = &self.held.notes[..];
+        self.table.count <= voices.len()
+            && self.held.count <= notes.len()
+            && self.design.accepted().is_ok()
+            && self.table.count <= 2 * (self.design.max_voices as usize)
+            && 1 <= self.next_handle
+            && self.block_fits(self.frames)
+            && self
+                .table
+                .fits(self.design, self.next_handle, self.held.count)
             && self.held.distinct()
+    }
+
+    // What bars a call other than Mix: check 1, and an open block.
+    #[tactic(auto, unfolding(crate::specs::Calls::barred_by))]
+    fn barred(&self) -> Result<(), Refusal>
+        ensures { result ≡ barred_by self.now }
+    {
+        if !self.well_formed() {
+            return Err(Refusal::Malformed);
+        }
+        if self.frames != 0 {
+            return Err(Refusal::BlockOpen);
+        }
+        Ok(())
     }
 
     // Starts a note, or goes on with the Mono voice; at velocity 0 it is a note-off.
@@ -277,15 +244,13 @@ impl Instrument {
         if level == 0.0 {
             return self.note_off(note);
         }
-        if let Err(refusal) = barred(self.well_formed(), self.frames) {
+        if let Err(refusal) = self.barred() {
             return Outcome::refused(self, refusal);
         }
-        let design = self.design;
-        let mode = design.mode;
-        if let PlayMode::Mono { legato } = mode {
+        if let PlayMode::Mono { legato } = self.design.mode {
             return self.mono_note_on(note, level, built, legato);
         }
-        if self.next_handle == 0xffff_ffff_ffff_ffff {
+        if self.next_handle == u64::MAX {
             return Outcome::refused(self, Refusal::NoHandleLeft);
         }
         self.spawn_voice(note, level, built)
@@ -301,17 +266,22 @@ impl Instrument {
         if !built {
             return Outcome::answered(self, Reply::Silent(handle));
         }
-        let design = self.design;
-        let voice = new_voice(design, self.bend, self.brightness, handle, note, velocity);
-        let added = self.table.add(voice, design.max_voices);
-        let table = added.table;
-        self.table = table;
+        let voice = new_voice(
+            self.design,
+            self.bend,
+            self.brightness,
+            handle,
+            note,
+            velocity,
+        );
+        let added = self.table.add(voice, self.design.max_voices);
+        self.table = added.table;
         Outcome::answered(
             self,
             Reply::Started {
                 handle,
-                killed: named(added.killed),
-                taken: named(added.taken),
+                killed: added.killed,
+                taken: added.taken,
             },
         )
     }
@@ -330,16 +300,15 @@ impl Instrument {
         let with = self.held.with(note);
         let found = self.table.find_first(|v| !v.releasing);
         if let Some(place) = found {
-            let handle = self.table.handle_at(place);
+            let handle = self.table.voices[place].handle;
             let glide = self.design.glide;
-            let kept = self
+            self.held = with;
+            self.table = self
                 .table
                 .change_at(place, |v| v.kept(note, glide, legato, velocity));
-            self.held = with;
-            self.table = kept;
             return Outcome::answered(self, Reply::Kept(handle));
         }
-        if self.next_handle == 0xffff_ffff_ffff_ffff {
+        if self.next_handle == u64::MAX {
             return Outcome::refused(self, Refusal::NoHandleLeft);
         }
         self.held = with;
@@ -356,20 +325,17 @@ impl Instrument {
             return Outcome::answered(self, Reply::Off(false));
         }
         self.held = rest;
-        if rest.count == 0 {
+        let Some(newest) = rest.newest() else {
             let down = self.sustain;
-            let off = self.table.change_all(|v| v.off_sounding(down));
-            self.table = off;
+            self.table = self.table.change_all(|v| v.off_sounding(down));
             return Outcome::answered(self, Reply::Off(true));
-        }
+        };
         let found = self.table.find_first(|v| !v.releasing);
         let Some(place) = found else {
             return Outcome::answered(self, Reply::Off(true));
         };
-        let newest = rest.newest();
         let glide = self.design.glide;
-        let aimed = self.table.change_at(place, |v| v.aimed_at(newest, glide));
-        self.table = aimed;
+        self.table = self.table.change_at(place, |v| v.aimed_at(newest, glide));
         Outcome::answered(self, Reply::Off(true))
     }
 
@@ -377,12 +343,10 @@ impl Instrument {
     pub fn note_off(mut self, note: u8) -> Outcome<Instrument, Reply>
         ensures { CallAs self (Call.control (Control.note_off note)) result }
     {
-        if let Err(refusal) = barred(self.well_formed(), self.frames) {
+        if let Err(refusal) = self.barred() {
             return Outcome::refused(self, refusal);
         }
-        let design = self.design;
-        let mode = design.mode;
-        if let PlayMode::Mono { legato: _ } = mode {
+        if let PlayMode::Mono { .. } = self.design.mode {
             return self.mono_note_off(note);
         }
         let found = self.table.find_last(|v| v.plays(note));
@@ -390,8 +354,7 @@ impl Instrument {
             return Outcome::answered(self, Reply::Off(false));
         };
         let down = self.sustain;
-        let off = self.table.change_at(place, |v| v.off(down));
-        self.table = off;
+        self.table = self.table.change_at(place, |v| v.off(down));
         Outcome::answered(self, Reply::Off(true))
     }
 
@@ -399,15 +362,14 @@ impl Instrument {
     pub fn set_sustain(mut self, down: bool) -> Outcome<Instrument, Reply>
         ensures { CallAs self (Call.control (Control.pedal down)) result }
     {
-        if let Err(refusal) = barred(self.well_formed(), self.frames) {
+        if let Err(refusal) = self.barred() {
             return Outcome::refused(self, refusal);
         }
         self.sustain = down;
         if down {
             return Outcome::answered(self, Reply::Done);
         }
-        let lifted = self.table.change_all(|v| v.lifted());
-        self.table = lifted;
+        self.table = self.table.change_all(|v| v.lifted());
         Outcome::answered(self, Reply::Done)
     }
 
@@ -415,12 +377,11 @@ impl Instrument {
     pub fn set_bend(mut self, factor: f32) -> Outcome<Instrument, Reply>
         ensures { CallAs self (Call.control (Control.bend factor)) result }
     {
-        if let Err(refusal) = barred(self.well_formed(), self.frames) {
+        if let Err(refusal) = self.barred() {
             return Outcome::refused(self, refusal);
         }
         self.bend = factor;
-        let after = self.table.change_all(|v| bent(v, factor));
-        self.table = after;
+        self.table = self.table.change_all(|v| bent(v, factor));
         Outcome::answered(self, Reply::Done)
     }
 
@@ -428,13 +389,12 @@ impl Instrument {
     pub fn set_brightness(mut self, scale: f32) -> Outcome<Instrument, Reply>
         ensures { CallAs self (Call.control (Control.brightness scale)) result }
     {
-        if let Err(refusal) = barred(self.well_formed(), self.frames) {
+        if let Err(refusal) = self.barred() {
             return Outcome::refused(self, refusal);
         }
         let least = float32::max(scale, 0.01);
         self.brightness = least;
-        let after = self.table.change_all(|v| cut_to(v, least));
-        self.table = after;
+        self.table = self.table.change_all(|v| cut_to(v, least));
         Outcome::answered(self, Reply::Done)
     }
 
@@ -442,15 +402,14 @@ impl Instrument {
     pub fn release(mut self, handle: u64) -> Outcome<Instrument, Reply>
         ensures { CallAs self (Call.control (Control.release handle)) result }
     {
-        if let Err(refusal) = barred(self.well_formed(), self.frames) {
+        if let Err(refusal) = self.barred() {
             return Outcome::refused(self, refusal);
         }
         let found = self.table.find_first(|v| v.has_handle(handle));
         let Some(place) = found else {
             return Outcome::answered(self, Reply::Released(false));
         };
-        let after = self.table.change_at(place, |v| v.released());
-        self.table = after;
+        self.table = self.table.change_at(place, |v| v.released());
         Outcome::answered(self, Reply::Released(true))
     }
 
@@ -458,18 +417,17 @@ impl Instrument {
     pub fn all_notes_off(mut self) -> Outcome<Instrument, Reply>
         ensures { CallAs self (Call.control Control.all_off) result }
     {
-        if let Err(refusal) = barred(self.well_formed(), self.frames) {
+        if let Err(refusal) = self.barred() {
             return Outcome::refused(self, refusal);
         }
-        let after = self.table.change_all(|v| v.released());
-        self.table = after;
+        self.table = self.table.change_all(|v| v.released());
         self.held.count = 0;
         Outcome::answered(self, Reply::Done)
     }
 
     // Whether a handle is in the table.
-    pub fn is_active(self, handle: u64) -> Result<bool, Refusal>
-        ensures { active_of result ≡ asked_of self (is_active (view self) handle) }
+    pub fn is_active(&self, handle: u64) -> Result<bool, Refusal>
+        ensures { active_of result ≡ asked_of self.now (is_active (view self.now) handle) }
     {
         if !self.well_formed() {
             return Err(Refusal::Malformed);
@@ -479,26 +437,24 @@ impl Instrument {
     }
 
     // How many voices are in the table.
-    pub fn active_voices(self) -> Result<usize, Refusal>
-        ensures { voices_of result ≡ asked_of self (active_voices (view self)) }
+    pub fn active_voices(&self) -> Result<usize, Refusal>
+        ensures { voices_of result ≡ asked_of self.now (active_voices (view self.now)) }
     {
         if !self.well_formed() {
             return Err(Refusal::Malformed);
         }
-        Ok(self.table.count)
+        let voices = &self.table.voices[..];
+        Ok(self.table.count.min(voices.len()))
     }
 
     // Some voice of a note that is not releasing.
-    pub fn voice_of(self, note: u8) -> Result<Option<u64>, Refusal>
-        ensures { VoiceAs self note result }
+    pub fn voice_of(&self, note: u8) -> Result<Option<u64>, Refusal>
+        ensures { VoiceAs self.now note result }
     {
         if !self.well_formed() {
             return Err(Refusal::Malformed);
         }
         let found = self.table.find_first(|v| v.sounds_note(note));
-        let Some(place) = found else {
-            return Ok(None);
-        };
-        Ok(Some(self.table.handle_at(place)))
+        Ok(found.and_then(|place| self.table.handle_at(place)))
     }
 }

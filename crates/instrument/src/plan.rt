@@ -1,7 +1,6 @@
 // Plan (the Rust's `apply_modulation`, and `glide_block` of every copy): the pitch curve of the next block.
 
 ghost use Rattle.std.specs.Prelude.{◌≡◌, true, ◌≤◌};
-ghost use Rattle.design.specs.Accepted.{modulated as is_modulated};
 ghost use Rattle.envelope.specs.Start.{rate_fits};
 ghost use Rattle.model.specs.Plan.{vibrato_factor, filter_factor, tremolo_gain, applied};
 ghost use Rattle.instrument.specs.View.{view};
@@ -10,8 +9,8 @@ ghost use Rattle.voice.specs.View.{seen};
 ghost use Rattle.voice.specs.Changes.{on_seen};
 ghost use Rattle.instrument.specs.Plans.{PlannedAs, plan_fits, step_of, phase_on, wobble_of, StandsFor};
 
-use crate::{Instrument, Reply, barred, copies_fill, frames_fit};
-use design::{InstrumentDesign, Modulation};
+use crate::{Instrument, Reply};
+use design::Modulation;
 use outcome::{Outcome, Refusal};
 use stream::UnisonCopy;
 use voice::Voice;
@@ -74,48 +73,33 @@ fn wobbled(v: Voice, m: Modulation, bend: f32, cutoff: f32) -> Voice
     v.with_copies(|copy| wobble(copy, m, bend, cutoff))
 }
 
-// Whether any LFO of the design counts.
-fn modulated(design: InstrumentDesign) -> bool
-    ensures { result ≡ is_modulated design.modulation }
-{
-    let m = design.modulation;
-    m.is_active()
-}
-
-// Whether a state that bars no call and has so many voices plans so many frames into a curve of length `len`.
-#[tactic(auto, unfolding(crate::specs::Plans::plan_fits))]
-fn plan_fits(
-    design: InstrumentDesign,
-    frames: usize,
-    voices: usize,
-    len: usize,
-) -> Result<(), Refusal>
-    requires { voices ≤ 64 }
-    ensures { result ≡ plan_fits design frames voices len }
-{
-    if !frames_fit(design, frames) {
-        return Err(Refusal::Frames);
-    }
-    if copies_fill(design, frames, voices, len) {
-        Ok(())
-    } else {
-        Err(Refusal::LentLength)
-    }
-}
-
 impl Instrument {
+    // Whether a state that bars no call plans so many frames into a curve of length `len`.
+    #[tactic(auto, unfolding(crate::specs::Plans::plan_fits))]
+    fn plan_fits(&self, frames: usize, len: usize) -> Result<(), Refusal>
+        requires { self.now.table.count ≤ 64 }
+        ensures { result ≡ plan_fits self.now frames len }
+    {
+        if !self.frames_fit(frames) {
+            return Err(Refusal::Frames);
+        }
+        if self.copies_fill(frames, len) {
+            Ok(())
+        } else {
+            Err(Refusal::LentLength)
+        }
+    }
+
     // The host's values act on every copy, and the phases move on by the block.
     fn apply_modulation(mut self, frames: usize, vibrato: f32, filter: f32, sine: f32) -> Instrument
         requires { (frames ≤ 1024) × (rate_fits self.design.sample_rate ≡ true) }
         ensures { StandsFor self (applied (view self) frames vibrato filter sine) result }
     {
-        let design = self.design;
-        let m = design.modulation;
+        let m = self.design.modulation;
         let bend = self.bend * vibrato_factor(m, vibrato);
         let cutoff = self.brightness * filter_factor(m, filter);
-        let changed = self.table.change_all(|v| wobbled(v, m, bend, cutoff));
-        self.table = changed;
-        let step = step_of(frames, design.sample_rate);
+        self.table = self.table.change_all(|v| wobbled(v, m, bend, cutoff));
+        let step = step_of(frames, self.design.sample_rate);
         self.vib_phase = phase_on(self.vib_phase, m.vibrato_rate, step);
         self.flt_phase = phase_on(self.flt_phase, m.filter_rate, step);
         self.trem_phase = phase_on(self.trem_phase, m.tremolo_rate, step);
@@ -134,19 +118,16 @@ impl Instrument {
     ) -> Outcome<Instrument, Reply>
         ensures { PlannedAs self frames vibrato filter sine curve.old curve.new result }
     {
-        let design = self.design;
-        if let Err(refusal) = barred(self.well_formed(), self.frames) {
+        if let Err(refusal) = self.barred() {
             return Outcome::refused(self, refusal);
         }
-        let fits = plan_fits(design, frames, self.table.count, curve.len());
-        if let Err(refusal) = fits {
+        if let Err(refusal) = self.plan_fits(frames, curve.len()) {
             return Outcome::refused(self, refusal);
         }
-        if modulated(design) {
+        if self.design.modulation.is_active() {
             self = self.apply_modulation(frames, vibrato, filter, sine);
         }
-        let glided = self.table.glide(frames, curve);
-        self.table = glided;
+        self.table = self.table.glide(frames, curve);
         self.frames = frames;
         Outcome::answered(self, Reply::Planned)
     }

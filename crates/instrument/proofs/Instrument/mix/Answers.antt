@@ -13,24 +13,24 @@ returns-then-not-well_formed c =
     let x = c.args in
     mix-refused x.self _ _ _ _ (mix-unformed x.self _ _ (sym c.well_formed-2.ensures ∙ c.if-not-well_formed.true)) c.refused.ensures
 
-pub mix_fits-fits-requires : goal.mix_fits-fits-requires
-mix_fits-fits-requires c = few-voices _ (sym c.well_formed-2.ensures ∙ c.if-not-well_formed.false)
+pub mix_fits-requires : goal.mix_fits-requires
+mix_fits-requires c = few-voices _ (sym c.well_formed-2.ensures ∙ c.if-not-well_formed.false)
 
 pub returns-in-Err : goal.returns-in-Err
 returns-in-Err c =
     let x = c.args in
     let fine : formed x.self ≡ true = sym c.well_formed-2.ensures ∙ c.if-not-well_formed.false in
-    let number = ap number_in c.mix_fits-fits.ensures ∙ mix-number x.self _ _ (voices-long x.self c.well_formed.0) (held-long x.self c.well_formed.0) fine in
+    let number = ap number_in c.mix_fits.ensures ∙ mix-number x.self _ _ (voices-long x.self c.well_formed.0) (held-long x.self c.well_formed.0) fine in
     mix-refused _ _ _ _ _ (check-number _ _ _ _ number c.in-Err.is) c.refused-in-Err.ensures
 
-pub overflow_sub-gone : goal.overflow_sub-gone
-overflow_sub-gone c =
+pub overflow_sub-count : goal.overflow_sub-count
+overflow_sub-count c =
     let x = c.args in
     let long = voices-long x.self c.well_formed.0 in
     let held = held-long x.self c.well_formed.0 in
     let fine : formed x.self ≡ true = sym c.well_formed-2.ensures ∙ c.if-not-well_formed.false in
-    let accepted = check-passed _ _ _ (ap number_in c.mix_fits-fits.ensures ∙ mix-number x.self _ _ long held fine) c.in_default.not-Err in
-    omega (arith, (mix-played _ _ _ long held accepted c.mix-after.ensures).size)
+    let accepted = check-passed _ _ _ (ap number_in c.mix_fits.ensures ∙ mix-number x.self _ _ long held fine) c.in_default.not-Err in
+    omega (arith, (mix-played _ _ _ long held accepted c.mix-self.ensures).size)
 
 pub returns : goal.returns
 unfolding blocked_as
@@ -39,5 +39,5 @@ returns c =
     let long = voices-long x.self c.well_formed.0 in
     let held = held-long x.self c.well_formed.0 in
     let fine : formed x.self ≡ true = sym c.well_formed-2.ensures ∙ c.if-not-well_formed.false in
-    let accepted = check-passed _ _ _ (ap number_in c.mix_fits-fits.ensures ∙ mix-number x.self _ _ long held fine) c.in_default.not-Err in
-    mix-done _ _ _ long held accepted c.mix-after.ensures _ _ c.put.ensures c.answered.ensures
+    let accepted = check-passed _ _ _ (ap number_in c.mix_fits.ensures ∙ mix-number x.self _ _ long held fine) c.in_default.not-Err in
+    mix-done _ _ _ long held accepted c.mix-self.ensures _ _ c.put.ensures c.answered.ensures

@@ -14,20 +14,21 @@ pub returns-then-rest-self : goal.returns-then-rest-self
 returns-then-rest-self c =
     mono-none c.args.self (free _ c.requires) (held-long c.args.self c.well_formed.0) _ _ c.without-rest.ensures _ c.if-rest-self.true c.answered.ensures
 
-pub returns-then-rest-eq0 : goal.returns-then-rest-eq0
-unfolding placed_as
-returns-then-rest-eq0 c =
-    mono-last c.args.self (free _ c.requires) (held-long c.args.self c.well_formed.0) _ _ c.without-rest.ensures _ _ c.if-rest-self.false c.answered-then-rest-eq0.ensures c.if-rest-eq0.true
-    (c.change_all-off.ensures (off_sounding c.args.self.sustain) (λ v w p. search rules))
-
 pub returns-in_default : goal.returns-in_default
-unfolding placed_as shown
+unfolding placed_as
 returns-in_default c =
+    mono-last c.args.self (free _ c.requires) (held-long c.args.self c.well_formed.0) _ _ c.without-rest.ensures _ _ c.if-rest-self.false c.answered-in_default.ensures
+    (sym c.newest.ensures ∙ is-none _ c.in_default.not-Some)
+    (c.change_all-self.ensures (off_sounding c.args.self.sustain) (λ v w p. search rules))
+
+pub returns-in_default-found : goal.returns-in_default-found
+unfolding placed_as shown
+returns-in_default-found c =
     let s = c.args.self in
     let f = free _ c.requires in
     let long = voices-long s c.well_formed.0 in
-    let none = found-none s f.counted long _ (sym (is-none _ c.in_default.not-Some) ∙ c.find_first-found.ensures sounding (λ v b p. search rules)) in
-    mono-back s f (held-long s c.well_formed.0) _ _ c.without-rest.ensures _ _ c.if-rest-self.false c.answered-in_default.ensures _ _ c.if-rest-eq0.false refl refl
+    let none = found-none s f.counted long _ (sym (is-none _ c.in_default-found.not-Some) ∙ c.find_first-found.ensures sounding (λ v b p. search rules)) in
+    mono-back s f (held-long s c.well_formed.0) _ _ c.without-rest.ensures _ _ c.if-rest-self.false c.answered-in_default-found.ensures _ _ (sym c.newest.ensures ∙ c.in-Some.is) refl
     (none-changed s f.counted long _ none _)
 
 pub returns : goal.returns
@@ -36,6 +37,6 @@ returns c =
     let s = c.args.self in
     let f = free _ c.requires in
     let long = voices-long s c.well_formed.0 in
-    let some = found-some s f.counted long _ _ (sym c.in-Some.is ∙ c.find_first-found.ensures sounding (λ v b p. search rules)) in
-    mono-back s f (held-long s c.well_formed.0) _ _ c.without-rest.ensures _ _ c.if-rest-self.false c.answered-2.ensures _ _ c.if-rest-eq0.false
-    some.0 c.newest-newest.ensures (c.change_at-aimed.ensures (aimed_at s.design.glide c.newest-newest.result) (λ v w p. search rules))
+    let some = found-some s f.counted long _ _ (sym c.in-Some-found.is ∙ c.find_first-found.ensures sounding (λ v b p. search rules)) in
+    mono-back s f (held-long s c.well_formed.0) _ _ c.without-rest.ensures _ _ c.if-rest-self.false c.answered-2.ensures _ _ (sym c.newest.ensures ∙ c.in-Some.is)
+    some.0 (c.change_at-self.ensures (aimed_at s.design.glide c.in-Some.newest) (λ v w p. search rules))

@@ -3,15 +3,15 @@ use Rattle.instrument.proofs.Calls.{free-by, barred-call}
 use Rattle.instrument.specs.Calls.{tuned_as}
 use Rattle.instrument.proofs.Controls.{brightness-call}
 use borrow.Author.Rules.{rules}
-use Rattle.stream.specs.Pitch.{bent, cut_to}
+use Rattle.stream.specs.Pitch.{cut_to}
 use Rattle.model.specs.Voices.{with_copies}
 use Rattle.instrument.proofs.Instrument.set_brightness.Goals as goal
 
 pub returns-in-Err : goal.returns-in-Err
-returns-in-Err c = barred-call _ _ _ _ _ _ refl c.well_formed-2.ensures c.barred.ensures c.in-Err.is c.refused.ensures
+returns-in-Err c = barred-call _ _ _ _ _ refl c.barred.ensures c.in-Err.is c.refused.ensures
 
 pub returns : goal.returns
 unfolding tuned_as
 returns c =
-    let fine = free-by _ _ _ c.well_formed-2.ensures c.barred.ensures c.in_default.not-Err in
-    brightness-call _ fine _ _ _ _ c.max-least.ensures (c.change_all-after.ensures (with_copies (cut_to c.max-least.result)) (λ v w p. search rules)) c.answered.ensures
+    let fine = free-by _ _ c.barred.ensures c.in_default.not-Err in
+    brightness-call _ fine _ _ _ _ c.max-least.ensures (c.change_all-self.ensures (with_copies (cut_to c.max-least.result)) (λ v w p. search rules)) c.answered.ensures

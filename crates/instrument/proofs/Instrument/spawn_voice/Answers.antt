@@ -14,4 +14,4 @@ pub returns : goal.returns
 unfolding placed_as view
 returns c =
     let born = c.new_voice-voice.ensures ∙ new-voice-is (view c.args.self) c.requires.1 _ _ in
-    spawn-started c.args.self c.requires.0 _ _ _ _ c.if-not-built.false c.requires.1 _ _ _ _ born c.add-added.ensures c.named.ensures c.named-2.ensures c.answered-2.ensures
+    spawn-started c.args.self c.requires.0 _ _ _ _ c.if-not-built.false c.requires.1 _ _ born c.add-added.ensures c.answered-2.ensures
