@@ -1,6 +1,7 @@
 -- Every element passes a test.
-use Rattle.std.specs.Prelude.{◌≡◌, refl, Bool, true, not, ◌&&◌, List, [], ◌∷◌, map, ℕ, zero, suc, ◌<◌, length, get_or}
+use Rattle.std.specs.Prelude.{◌≡◌, refl, Bool, true, false, not, ◌&&◌, List, [], ◌∷◌, map, ℕ, zero, suc, ◌+◌, ◌<◌, length, take, drop, get_or}
 use Rattle.std.proofs.Common.{arith}
+use Rattle.lists.specs.Prefix.{drop_more}
 use Rattle.lists.specs.Count.{count}
 use Rattle.lists.specs.Places.{kept}
 
@@ -19,6 +20,23 @@ module _ {A : Type 0} (p : A → Bool) where
   none-all (x ∷ xs) e = grind (arith, none-all xs)
 
 module _ {A : Type 0} (p : A → Bool) where
+  -- a loop with an early return looks at what is left
+  pub all-next : (xs : List A) (i : ℕ) (d : A) → i < length xs → p (get_or xs i d) ≡ true → all p (drop i xs) ≡ all p (drop (i + 1) xs)
+  all-next xs i d h e = rw (drop_more xs i d, e)
+
+  pub all-fails : (xs : List A) (i : ℕ) (d : A) → i < length xs → p (get_or xs i d) ≡ false → all p (drop i xs) ≡ false
+  all-fails xs i d h e = rw (drop_more xs i d, e)
+
+  pub all_take : (n : ℕ) (xs : List A) → all p xs ≡ true → all p (take n xs) ≡ true
+  all_take zero xs e = refl
+  all_take (suc n) [] e = refl
+  all_take (suc n) (x ∷ xs) e = grind (arith, all_take n xs)
+
+  pub all_drop : (n : ℕ) (xs : List A) → all p xs ≡ true → all p (drop n xs) ≡ true
+  all_drop zero xs e = e
+  all_drop (suc n) [] e = refl
+  all_drop (suc n) (x ∷ xs) e = grind (arith, all_drop n xs)
+
   pub all-at : (xs : List A) (j : ℕ) (d : A) → j < length xs → all p xs ≡ true → p (get_or xs j d) ≡ true
   all-at [] j d h e = absurd (omega arith)
   all-at (x ∷ xs) zero d h e = grind arith

@@ -1,5 +1,5 @@
 -- Laws on `cond`, the choice by a test.
-use Rattle.std.specs.Prelude.{◌≡◌, refl, Bool, true, false, ◌&&◌, cond, ℕ}
+use Rattle.std.specs.Prelude.{◌≡◌, refl, Bool, true, false, ◌&&◌, ◌||◌, cond, ℕ}
 use Rattle.std.proofs.Common.{arith}
 pub use Rattle.std.proofs.lemmas.Bool.{cond-true, cond-false}
 
@@ -24,3 +24,9 @@ module _ (a b : Bool) where
 
   pub and_then : (x : Bool) → a ≡ true → x ≡ b → x ≡ a && b
   and_then x e f = rw e f
+
+  pub or-passes : a ≡ true → true ≡ a || b
+  or-passes e = rw e
+
+  pub or_else : (x : Bool) → a ≡ false → x ≡ b → x ≡ a || b
+  or_else x e f = rw e f

@@ -1,6 +1,7 @@
 -- How many elements pass a test.
-use Rattle.std.specs.Prelude.{◌≡◌, refl, Bool, true, false, List, [], ◌∷◌, ◌++◌, map, ℕ, zero, suc, ◌+◌, ◌≤◌, ◌<◌, length, get_or, set}
+use Rattle.std.specs.Prelude.{◌≡◌, refl, Bool, true, false, List, [], ◌∷◌, ◌++◌, map, ℕ, zero, suc, ◌+◌, ◌≤◌, ◌<◌, length, get_or, set, take}
 use Rattle.std.proofs.Common.{ap, arith}
+use Rattle.lists.specs.Prefix.{take_more}
 
 abbrev pub one_if : Bool → ℕ
 one_if true = 1
@@ -18,6 +19,10 @@ module _ {A : Type 0} where
   pub count-append : (p : A → Bool) (xs ys : List A) → count p (xs ++ ys) ≡ count p xs + count p ys
   count-append p [] ys = omega arith
   count-append p (x ∷ xs) ys = grind (arith, count-append p xs ys)
+
+  pub count-more : (p : A → Bool) (xs : List A) (i : ℕ) (d : A) → i < length xs
+      → count p (take (i + 1) xs) ≡ count p (take i xs) + one_if (p (get_or xs i d))
+  count-more p xs i d h = rw (take_more xs i d) (omega (arith, count-append p (take i xs) (get_or xs i d ∷ [])))
 
   pub count_at : (d : A) (p : A → Bool) (xs : List A) (j : ℕ) → j < length xs → p (get_or xs j d) ≡ true → 1 ≤ count p xs
   count_at d p [] j h e = absurd (omega arith)

@@ -1,8 +1,8 @@
 -- A list written part by part: what a part that was lent and came back makes of the whole, parts of a part, one list parted in two ways,
 -- elements read one by one, and lists that are joined of one list for each element.
-use Rattle.std.specs.Prelude.{◌≡◌, ℕ, suc, ◌+◌, ◌-◌, ◌*◌, ◌≤◌, ◌<◌, length, take, drop, get_or, set, replicate}
+use Rattle.std.specs.Prelude.{◌≡◌, ℕ, zero, suc, ◌+◌, ◌-◌, ◌*◌, ◌≤◌, ◌<◌, length, take, drop, get_or, set, replicate}
 use Rattle.std.proofs.Math.Path.{refl}
-use Rattle.std.proofs.Common.{ap, sym, ◌∙◌, length-take, length-drop, take-take, drop-drop}
+use Rattle.std.proofs.Common.{ap, sym, ◌∙◌, length-take, length-drop, take_all, take-take, drop-drop, drop-cons}
 use mathlib.Core.List.{List, [], ◌∷◌, ◌++◌, flat_map, append_assoc, append-nil}
 use Rattle.std.proofs.Math.Nat.{mul-suc}
 use native.Mathlib.Omega.{arith}
@@ -76,6 +76,19 @@ module _ {A : Type 0} where
   front-on xs [] cs ds h e = refl
   front-on [] (y ∷ ys) cs ds h e = absurd (omega arith)
   front-on (x ∷ xs) (y ∷ ys) cs ds h e = let q = front-on xs ys cs ds (omega arith) cc in cc
+
+  -- `m` elements read one by one from index i, as code writes them out; the reading side of `sets`
+  abbrev pub reads : List A → ℕ → ℕ → A → List A
+  reads l i zero d = []
+  reads l i (suc m) d = get_or l i d ∷ reads l (suc i) m d
+
+  pub reads-eq : (l : List A) (i m : ℕ) (d : A) → i + m ≤ length l → reads l i m d ≡ take m (drop i l)
+  reads-eq l i zero d h = refl
+  reads-eq l i (suc m) d h = rw (drop-cons l i d (omega arith)) (ap (◌∷◌ (get_or l i d)) (reads-eq l (suc i) m d (omega arith)))
+
+  -- an array is what is read at its places
+  pub reads_all : (l : List A) (m : ℕ) (d : A) → length l ≡ m → reads l 0 m d ≡ l
+  reads_all l m d e = reads-eq l 0 m d (omega arith) ∙ take_all m l (omega arith)
 
 module _ {A B : Type 0} (f : A → List B) where
   pub flat_append : (xs ys : List A) → flat_map f (xs ++ ys) ≡ flat_map f xs ++ flat_map f ys

@@ -1,10 +1,12 @@
 -- A pass over the first elements of an array, seen through a view `s` of one element: `ws` is the array now, `vs` the array at first,
 -- `w` where the next is written, `i` where the next is read, and `ys` the view of what stands at the front.
 -- With w ≡ i it is a map in place; with w ≤ i it packs what it keeps.
-use Rattle.std.specs.Prelude.{◌≡◌, refl, Bool, true, false, List, [], ◌∷◌, ◌++◌, map, ℕ, ◌+◌, ◌-◌, ◌≤◌, ◌<◌, ltb, length, take, drop, get_or, set}
-use Rattle.std.proofs.Common.{ap, sym, ◌∙◌, add-one, arith, ltb-true, ltb-false, length-set, length-take, take-suc-set, drop-set-lt}
+use Rattle.std.specs.Prelude.{◌≡◌, refl, Bool, true, false, List, [], ◌∷◌, ◌++◌, map, ℕ, suc, ◌+◌, ◌-◌, ◌≤◌, ◌<◌, ltb, length, take, drop, get_or, set}
+use Rattle.std.proofs.Common.{ap, sym, ◌∙◌, append_assoc, append-nil, add-one, arith, ltb-true, ltb-false, length-set, length-take, take-suc-set, drop-set-lt}
 use Rattle.std.proofs.lemmas.List.{map-append, length-map, take-set-le}
+use Rattle.std.proofs.lemmas.List.Edits.{sets}
 use Rattle.std.proofs.lemmas.Grind.{common_steps}
+use Rattle.lists.specs.Prefix.{take_more}
 use Rattle.lists.specs.Places.{without, without-none, without_more, without-past, map-without}
 
 module _ {A : Type 0} where
@@ -56,6 +58,22 @@ module _ {A B : Type 0} where
 
   pub pass-start : (s : A → B) (vs : List A) → Pass s [] 0 0 vs vs
   pass-start s vs = pass-from s 0 0 vs (omega arith)
+
+module _ {A B : Type 0} {s : A → B} {vs : List A} where
+  -- a run of stores
+  pub pass-keeps : {ys : List B} {i : ℕ} {ws : List A} (xs : List A) → Pass s ys i i ws vs → i + length xs ≤ length vs
+      → Pass s (ys ++ map s xs) (i + length xs) (i + length xs) (sets ws i xs) vs
+  pass-keeps {ys = ys} {i = i} [] p h = let e : i + 0 ≡ i = omega arith in rw (e, append-nil) p
+  pass-keeps {ys = ys} {i = i} (x ∷ xs) p h =
+      let e : suc i + length xs ≡ i + suc (length xs) = omega arith in
+      let q = pass-keeps {ys = ys ++ s x ∷ []} {i = suc i} xs (rw add-one at (pass-keep x (s x) refl p (omega arith))) (omega arith) in
+      rw (e, append_assoc) at q
+
+module _ {A B C : Type 0} where
+  -- the view of one more element, through a function on views
+  pub maps-more : (g : B → C) (s : A → B) (xs : List A) (i : ℕ) (d : A) → i < length xs
+      → map g (map s (take (i + 1) xs)) ≡ map g (map s (take i xs)) ++ (g (s (get_or xs i d)) ∷ [])
+  maps-more g s xs i d h = rw (take_more xs i d, map-append s, map-append g)
 
 -- A removal from the first n: those behind the element k move down one after the other, i is the next that moves. A k past them takes none out.
 module _ {A B : Type 0} where

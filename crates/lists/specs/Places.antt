@@ -26,6 +26,14 @@ module _ {A : Type 0} where
   kept p [] = []
   kept p (a ∷ rest) = cond (p a) (a ∷ kept p rest) (kept p rest)
 
+  -- a search that looks at one after the other: the invariant speaks of what is left
+  pub find-found : (p : A → Bool) (xs : List A) (i : ℕ) (d : A) → i < length xs → p (get_or xs i d) ≡ true → find_at p (drop i xs) ≡ 0
+  find-found p xs i d h e = rw (drop_more xs i d, e)
+
+  pub find-next : (p : A → Bool) (xs : List A) (i : ℕ) (d : A) → i < length xs → p (get_or xs i d) ≡ false
+      → find_at p (drop i xs) ≡ suc (find_at p (drop (i + 1) xs))
+  find-next p xs i d h e = rw (drop_more xs i d, e)
+
   -- a search from the end: none passes in what was looked at
   pub last_none : (p : A → Bool) (xs : List A) → count p xs ≡ 0 → last_at p xs ≡ length xs
   last_none p [] e = refl
