@@ -11,22 +11,25 @@ pub struct Line {
     pub words: [u32; 7],
 }
 
+// A byte that is no capital hexadecimal digit counts as 0.
+fn word(digits: &[u8]) -> u32 {
+    digits.iter().fold(0u32, |value, byte| {
+        let digit = text::hex_value(*byte).unwrap_or(0);
+        value.wrapping_mul(16).wrapping_add(u32::from(digit))
+    })
+}
+
 impl Line {
-    // None where the text is no letter and seven words, each behind a space.
-    pub fn read(text: &[u8]) -> Option<Line> {
-        let (letter, behind) = text.split_first()?;
-        if behind.len() != 63 {
-            return None;
-        }
+    // Behind the letter each word has a space before it.
+    pub fn read(line: &[u8; 65]) -> Line {
         let mut words = [0; 7];
-        for (word, part) in words.iter_mut().zip(behind.chunks(9)) {
-            let digits = str::from_utf8(part.strip_prefix(b" ")?).ok()?;
-            *word = u32::from_str_radix(digits, 16).ok()?;
+        for (value, digits) in words.iter_mut().zip(line[2..].chunks(9)) {
+            *value = word(digits.get(..8).unwrap_or(&[]));
         }
-        Some(Line {
-            letter: *letter,
+        Line {
+            letter: line[0],
             words,
-        })
+        }
     }
 
     pub fn float(&self, k: usize) -> f32
