@@ -16,27 +16,9 @@ use Rattle.forms.specs.declared.DesignForm.{DesignForm}
 use Rattle.forms.specs.declared.OnForm.{OnForm}
 use Rattle.forms.specs.declared.Form.{Form}
 use Rattle.forms.specs.declared.Form.TheVariants.{Design, On, Voices}
-use Rattle.forms.specs.Forms.{Below32, open_design, then_max, then_mode, then_unison, then_amp, then_glide, then_mod, close_design, space, open_on, close, voices, decimal_part, mode_part, word_part, amp_text, modulation_text, design_text, on_text, AmpFits, ModulationFits, DesignFits, OnFits, Says, FormAs}
+use Rattle.forms.specs.Forms.{Below32, open_design, then_max, then_mode, then_unison, then_glide, then_mod, close_design, space, open_on, close, voices, decimal_part, mode_part, word_part, amp_text, modulation_text, design_text, on_text, AmpFits, ModulationFits, DesignFits, OnFits, Says, FormAs}
 use Rattle.forms.specs.Parts.{AnyMode, DesignAs, OnAs}
 use Rattle.forms.proofs.Chains.{SameText}
-
-abbrev pub AmpParts : Type 0
-AmpParts = ℕ × (ℕ × (ℕ × ℕ))
-
-abbrev pub amp_of : AmpParts → AmpForm
-amp_of p = record { a = p.0; d = p.1.0; s = p.1.1.0; r = p.1.1.1 }
-
-abbrev pub amp_parts : AmpForm → AmpParts
-amp_parts f = (f.a, (f.d, (f.s, f.r)))
-
-pub amp_same : SameText {A = AmpParts} (λ p. word_part then_amp p.0 ++ (word_part space p.1.0 ++ (word_part space p.1.1.0 ++ word_part space p.1.1.1)))
-    (λ p. Below32 p.0 × (Below32 p.1.0 × (Below32 p.1.1.0 × Below32 p.1.1.1))) amp_text AmpFits amp_of amp_parts
-amp_same = record {
-  text = λ v h. refl;
-  fits = λ v h. record { a = h.0; d = h.1.0; s = h.1.1.0; r = h.1.1.1 };
-  fits_back = λ w h. (h.a, (h.d, (h.s, h.r)));
-  again = λ w. refl;
-}
 
 abbrev pub ModulationParts : Type 0
 ModulationParts = ℕ × (ℕ × (ℕ × (ℕ × (ℕ × ℕ))))

@@ -5,7 +5,7 @@ use Prim.Native.Nat.{ℕ, zero, suc, ◌+◌, ◌*◌, ◌/◌, ◌%◌, ◌≤�
 use native.Mathlib.Omega.{arith}
 use lib.ListN.{length, drop, set, length-set, drop_of_length-le}
 use Rattle.lists.specs.Parts.{drop-set}
-use Rattle.text.specs.Text.{figure, decimal_text, glyph, glyphs, word_text}
+use Rattle.text.specs.Text.{figure, decimal_text, glyphs, word_text}
 use Rattle.text.specs.Put.{EndsIn}
 use Rattle.text.proofs.Decimals.{text-one, text-more}
 
@@ -21,15 +21,6 @@ pub record Figuring (n : ℕ) (buffer : List ℕ) (rest i : ℕ) : Type 0 where
   pub size : length buffer ≡ 20
   pub inside : i ≤ 20
   pub some : 1 ≤ i
-
-pub figuring-none : (n : ℕ) (buffer : List ℕ) → n < 0x1_0000_0000_0000_0000 → length buffer ≡ 20 → Figuring n buffer n 20
-figuring-none n buffer h s = record {
-  whole = sym (append-nil (decimal_text n)) ∙ ap (λ (t : List ℕ). decimal_text n ++ t) (sym (drop_of_length-le buffer {i = 20} (omega arith)));
-  small = omega arith;
-  size = s;
-  inside = omega arith;
-  some = omega arith;
-}
 
 module _ (n : ℕ) (buffer : List ℕ) (rest i k : ℕ) (s : Figuring n buffer rest i) (e : i ≡ suc k) where
   front : (x : ℕ) → drop k (set buffer k x) ≡ x ∷ drop i buffer
@@ -85,18 +76,3 @@ glyphing-none n buffer s = record {
   size = s;
   inside = omega arith;
 }
-
-pub glyphing-more : (n : ℕ) (buffer : List ℕ) (rest i k x : ℕ) → Glyphing n buffer rest i → i ≡ suc k → x ≡ glyph (rest % 16) → Glyphing n (set buffer k x) (rest / 16) k
-glyphing-more n buffer rest i k x s e f =
-    let a = s.size in
-    let b = s.inside in
-    let w : word_text n ≡ glyphs (suc k) rest ++ drop (suc k) buffer = rw e at s.whole in
-    record {
-      whole = w ∙ append_assoc (glyphs k (rest / 16)) (glyph (rest % 16) ∷ []) (drop (suc k) buffer)
-          ∙ ap (λ (u : List ℕ). glyphs k (rest / 16) ++ u) (ap (λ (y : ℕ). y ∷ drop (suc k) buffer) (sym f) ∙ sym (drop-set buffer k x (omega arith)));
-      size = length-set buffer k x ∙ a;
-      inside = omega arith;
-    }
-
-pub glyphing-done : (n : ℕ) (buffer : List ℕ) (rest i : ℕ) → Glyphing n buffer rest i → i ≤ 0 → buffer ≡ word_text n
-glyphing-done n buffer rest i s h = let z : i ≡ 0 = omega arith in let w : word_text n ≡ glyphs 0 rest ++ drop 0 buffer = rw z at s.whole in sym w

@@ -7,7 +7,7 @@ use Rattle.std.proofs.Math.Nat.{pow-suc}
 use native.Mathlib.Numerals.{add-one}
 use native.Mathlib.Omega.{arith}
 use lib.Dec.{ltb}
-use borrow.Author.Tests.{ltb-true, ltb-false, lt-ltb, le-ltb}
+use borrow.Author.Tests.{ltb-true, ltb-false}
 use lib.ListN.{length, take, drop, get_or, length-append, take-append-drop}
 use lib.Seq.{take_all}
 use Rattle.lists.specs.Prefix.{take_more, drop_more}
@@ -17,12 +17,6 @@ use Rattle.text.specs.Read.{DigitsAs, Got, Any, ValueAs}
 use Rattle.lists.specs.Parts.{head-same, parts_same}
 use Rattle.text.proofs.Spelt.{Spelt, spelt-append, begun, none-here}
 use Rattle.text.proofs.Once.{read-none, read-some}
-
-pub glyph-low : (d : ℕ) → d < 10 → glyph d ≡ 48 + d
-glyph-low d h = rw (lt-ltb d 10 h)
-
-pub glyph-high : (d : ℕ) → 10 ≤ d → glyph d ≡ 55 + d
-glyph-high d h = rw (le-ltb d 10 h)
 
 -- one byte is the digit of one number
 pub glyph-same : (c d : ℕ) → c < 16 → d < 16 → glyph c ≡ glyph d → c ≡ d
@@ -78,9 +72,6 @@ pub record Spelling (digits : List ℕ) (value i : ℕ) : Type 0 where
   pub front : take i digits ≡ glyphs i value
   pub small : value < room i
 
-pub spelling-none : (digits : List ℕ) → Spelling digits 0 0
-spelling-none digits = record { front = refl; small = omega arith }
-
 pub spelling-more : (digits : List ℕ) (value i d : ℕ) → i < length digits → Spelling digits value i → d < 16 → get_or digits i 0 ≡ glyph d
     → Spelling digits (16 * value + d) (i + 1)
 spelling-more digits value i d h s k e =
@@ -95,9 +86,6 @@ spelling-more digits value i d h s k e =
 pub room_is : (k : ℕ) → room k ≡ 16 ^ k
 room_is zero = refl
 room_is (suc k) = let ih = room_is k in rw pow-suc (omega arith)
-
-pub room-most : (k : ℕ) → k ≤ 8 → room k ≤ 0x1_0000_0000
-room-most k h = room-mono k 8 h
 
 module _ (k : ℕ) (l : List ℕ) where
   none : ((v : ℕ) (rest : List ℕ) → Got (glyphs k) (λ v. v < 16 ^ k) Any l v rest → ⊥) → DigitsAs k l None

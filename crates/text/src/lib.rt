@@ -67,6 +67,7 @@ pub fn word(text: &[u8]) -> Option<(u32, &[u8])>
 }
 
 // Two capital hexadecimal digits.
+#[tactic(auto, unfolding(crate::specs::Text::byte_text))]
 pub fn byte(text: &[u8]) -> Option<(u8, &[u8])>
     ensures { ByteAs text.now (seen result) }
 {
