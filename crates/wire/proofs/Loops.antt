@@ -2,22 +2,19 @@
 use mathlib.Core.Path.{◌≡◌, refl, ap, sym, ◌∙◌}
 use mathlib.Core.Bool.{Bool, true}
 use mathlib.Core.List.{List, [], ◌∷◌, map}
-use Prim.Native.Nat.{ℕ, ◌+◌, ◌<◌, min}
+use Prim.Native.Nat.{ℕ, ◌+◌, ◌<◌}
 use native.Mathlib.Numerals.{add-one}
 use lib.ListN.{length, take, get_or, set}
 use lib.Seq.{take-suc-set}
 use Rattle.std.specs.List.{AllZip, list_all}
 use Rattle.std.proofs.lemmas.Slice.Zip.{all_zipped_more}
-use Rattle.lists.specs.Prefix.{take_more, take_min}
+use Rattle.lists.specs.Prefix.{take_more}
 use Rattle.lists.specs.All.{all, all_map}
 
 module _ {A B : Type 0} (R : A → B → Type 0) where
   pub made-more : (xs : List A) (ys : List B) (i : ℕ) (d : A) (y : B) → i < length xs → i < length ys → R (get_or xs i d) y
       → AllZip R (take i xs) (take i ys) → AllZip R (take (i + 1) xs) (take (i + 1) (set ys i y))
   made-more xs ys i d y hx hy r p = rw (take_more xs i d, add-one, take-suc-set ys i y) (all_zipped_more R _ _ _ y p r)
-
-  pub made-all : (n i : ℕ) (xs : List A) (ys : List B) → length ys ≡ length xs → i ≡ min n (length xs) → AllZip R (take i xs) (take i ys) → AllZip R (take n xs) (take n ys)
-  made-all n i xs ys l e p = rw (← take_min n (length xs) xs refl, ← take_min n (length xs) ys l, ← e) p
 
   -- what g shows of each item made is what f shows of the item that it was made from
   pub alike : {C : Type 0} (f : A → C) (g : B → C) (xs : List A) (ys : List B) → AllZip R xs ys → ((x : A) (y : B) → R x y → g y ≡ f x) → map g ys ≡ map f xs

@@ -201,10 +201,6 @@ impl From<HostCopy> for UnisonCopy {
 
     #[tactic(auto, unfolding(crate::specs::Reads::copy_of, crate::specs::Reads::cutoff_of))]
     fn from(c: HostCopy) -> UnisonCopy {
-        let mut cutoff = None;
-        if c.cutoff_set != 0 {
-            cutoff = Some(c.cutoff);
-        }
         UnisonCopy {
             l: c.l,
             r: c.r,
@@ -212,7 +208,7 @@ impl From<HostCopy> for UnisonCopy {
             pitch_target: c.pitch_target,
             glide: c.glide,
             bend: c.bend,
-            cutoff,
+            cutoff: (c.cutoff_set != 0).then_some(c.cutoff),
         }
     }
 }

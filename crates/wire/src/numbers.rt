@@ -32,37 +32,37 @@ impl HostEnv {
 }
 
 impl HostVoice {
+    #[tactic(auto, unfolding(crate::specs::Reads::voice_numbered))]
     fn is_numbered(&self) -> bool
         ensures { result ≡ voice_numbered self.now }
     {
-        let copies = self
-            .copies
-            .iter()
-            .take(self.copy_count)
-            .all(|c| c.cutoff_set <= 1);
-        (self.copy_count <= 8)
-            & self.env.is_numbered()
-            & (self.releasing <= 1)
-            & (self.sustained <= 1)
-            & copies
+        self.copy_count <= 8
+            && self.env.is_numbered()
+            && self.releasing <= 1
+            && self.sustained <= 1
+            && self
+                .copies
+                .iter()
+                .take(self.copy_count)
+                .all(|c| c.cutoff_set <= 1)
     }
 }
 
 impl HostState {
     // Whether every count lies within its array, and every number up to the counts names a mode, a stage, or yes or no.
+    #[tactic(auto, unfolding(crate::specs::Reads::numbered))]
     pub fn is_numbered(&self) -> bool
         ensures { result ≡ numbered self.now }
     {
-        let voices = self
-            .voices
-            .iter()
-            .take(self.voice_count)
-            .all(HostVoice::is_numbered);
-        (self.voice_count <= 64)
-            & (self.held_count <= 256)
-            & self.design.is_numbered()
-            & (self.sustain <= 1)
-            & voices
+        self.voice_count <= 64
+            && self.held_count <= 256
+            && self.design.is_numbered()
+            && self.sustain <= 1
+            && self
+                .voices
+                .iter()
+                .take(self.voice_count)
+                .all(HostVoice::is_numbered)
     }
 }
 
@@ -104,6 +104,7 @@ impl From<InstrumentDesign> for HostDesign {
     }
 }
 
+#[tactic(auto, unfolding(crate::specs::Reads::stage_of))]
 fn stage_number(stage: Stage) -> u32
     ensures { (stage_of result ≡ stage) × (leb result 4 ≡ true) }
 {

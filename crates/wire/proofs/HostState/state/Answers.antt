@@ -1,11 +1,11 @@
-use Rattle.std.proofs.Common.{rules, ◌≡◌, true, refl, sym, ◌∙◌, take}
+use Rattle.std.proofs.Common.{rules, ◌≡◌, refl, ◌∙◌, take}
 use mathlib.Core.List.{map-id}
 use Rattle.voice.specs.View.{seen}
 use Rattle.held.specs.View.{number_of_note}
 use Rattle.instrument.specs.View.{view}
 use Rattle.wire.proofs.Loops.{alike}
 use Rattle.wire.proofs.Parts.{voices-of, read-counted}
-use Rattle.wire.specs.Reads.{design_of, seen_of, model_of, numbered}
+use Rattle.wire.specs.Reads.{design_of, seen_of, model_of}
 use Rattle.wire.proofs.HostState.state.Goals as goal
 
 pub returns : goal.returns
