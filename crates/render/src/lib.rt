@@ -154,7 +154,7 @@ fn stand_from(p: usize, n: usize, k: usize, len: usize) -> bool
 }
 
 // One voice goes into the sums of both sides, its samples from p on; gives its envelope n frames later. Where
-// something does not fit, all is left as it is.
+// something does not fit, all is left as it is: so a count and a place, which slices could not hold unchecked.
 pub fn add_voice(
     v: Voice,
     n: usize,
@@ -197,7 +197,8 @@ fn put_pairs(left: &[f32], right: &[f32], out: &mut [f32])
     }
 }
 
-// The first m sums of both sides are written, left before right. Where something does not fit, all is left as it is.
+// The first m sums of both sides are written, left before right. Where something does not fit, all is left as it is: so
+// a count, which slices could not hold unchecked.
 pub fn put(left: &[f32], right: &[f32], m: usize, out: &mut [f32])
     ensures { PutAs left.now right.now m out.old out.new }
 {
