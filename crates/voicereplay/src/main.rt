@@ -8,26 +8,31 @@ use patterns::Page;
 use replay::Session;
 use std::io;
 
-fn flush(rt: &impl Print, page: &mut Page) -> io::Result<()> {
-    rt.write_all(page.text())?;
-    page.clear();
-    Ok(())
+// A session, the memory that it lends for blocks, and the output that waits.
+#[derive(Drop)]
+struct Run<'a> {
+    session: Session,
+    samples: &'a mut [f32],
+    stereo: &'a mut [f32],
+    page: Page<'a>,
 }
 
-// The output goes out where it may not have room for one more answer.
-fn answer(
-    rt: &impl Print,
-    session: &mut Session,
-    line: &[u8],
-    samples: &mut [f32],
-    stereo: &mut [f32],
-    page: &mut Page,
-) -> io::Result<()> {
-    session.answer(line, samples, stereo, page);
-    if page.text().len() < 30_720 {
-        return Ok(());
+impl<'a> Run<'a> {
+    fn flush(&mut self, rt: &impl Print) -> io::Result<()> {
+        rt.write_all(self.page.text())?;
+        self.page.clear();
+        Ok(())
     }
-    flush(rt, page)
+
+    // The output goes out where it may not have room for one more answer.
+    fn answer(&mut self, rt: &impl Print, line: &[u8]) -> io::Result<()> {
+        self.session
+            .answer(line, self.samples, self.stereo, &mut self.page);
+        if self.page.text().len() < 30_720 {
+            return Ok(());
+        }
+        self.flush(rt)
+    }
 }
 
 // Samples are those of 64 voices of 8 copies over 1,024 frames, and one more; stereo is both sides of 1,024 frames, and
@@ -37,29 +42,18 @@ fn main(rt: HostRuntime) -> io::Result<()> {
     let mut out = [0; 65536];
     let mut samples = [0.0; 524_289];
     let mut stereo = [0.0; 2049];
-    let mut session = Session::new();
+    let page = Page::new(&mut out);
+    let mut run = Run {
+        session: Session::new(),
+        samples: samples.as_mut_slice(),
+        stereo: stereo.as_mut_slice(),
+        page,
+    };
     let mut line = Line::<257>::new();
-    let mut page = Page::new(&mut out);
     lines::blocks(&mut rt.stdin(), &mut input, |block| {
-        line.take(block, |text| {
-            answer(
-                &rt,
-                &mut session,
-                text,
-                &mut samples,
-                &mut stereo,
-                &mut page,
-            )
-        })?;
-        flush(&rt, &mut page)
+        line.take(block, |text| run.answer(&rt, text))?;
+        run.flush(&rt)
     })?;
-    line.finish(|text| answer(
-        &rt,
-        &mut session,
-        text,
-        &mut samples,
-        &mut stereo,
-        &mut page,
-    ))?;
-    flush(&rt, &mut page)
+    line.finish(|text| run.answer(&rt, text))?;
+    run.flush(&rt)
 }
