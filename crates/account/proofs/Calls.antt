@@ -4,31 +4,23 @@ use mathlib.Core.Bool.{true}
 use Rattle.lists.specs.Choose.{cond-true}
 use Rattle.design.specs.Accepted.{is_accepted}
 use Rattle.model.specs.Types.{Call, Reply}
-use Rattle.model.specs.Step.{refusal, step}
 use Rattle.model.specs.Start.{fresh, zero_state, start_of}
 use Rattle.instrument.specs.declared.Instrument.{Instrument}
 use Rattle.instrument.specs.View.{view, counted}
-use Rattle.instrument.specs.Calls.{refusal_of, reply_to, StepAs}
+use Rattle.instrument.specs.Calls.{refusal_of, StepAs}
 use Rattle.instrument.proofs.Parts.{accepted-yes}
 use Rattle.account.specs.Methods.{code, HandleAccount}
 use Rattle.account.proofs.Account.{Steps, steps, account-of}
+use Rattle.account.proofs.Steps.{same-refusal, said-is}
 
 -- one call on a state whose counts are in room
 module _ (s : Instrument) (room : counted s ≡ true) (c : Call) (said : Reply) (t : Instrument) (a : StepAs s c said t) where
-  same-refusal : refusal_of s c ≡ refusal (view s) c
-  unfolding refusal_of
-  same-refusal = cond-true (counted s) _ _ room
-
-  said-is : said ≡ (step (view s) c).reply
-  unfolding reply_to
-  said-is = a.reply ∙ cond-true (counted s) _ _ room
-
   code-steps : Steps code s c said t
-  code-steps = steps code s c said t (refusal_of s c) room same-refusal said-is a.refused a.in_room a.next
+  code-steps = steps code s c said t (refusal_of s c) room (same-refusal s room c said t a) (said-is s room c said t a) a.refused a.in_room a.next
 
-pub code-account : HandleAccount
+pub code_account : HandleAccount
 unfolding HandleAccount start_of
-code-account d r a y xs g =
+code_account d r a y xs g =
     let e : is_accepted d ≡ true = sym (accepted-yes d (sym a.reply ∙ y)) in
     let v : view r.state ≡ fresh d = a.state ∙ cond-true (is_accepted d) (fresh d) zero_state e in
     account-of code code-steps d e r.state a.in_room v xs g

@@ -11,7 +11,6 @@ use Rattle.lists.specs.Choose.{clash, cond-true, chosen, both}
 use Rattle.design.specs.declared.PlayMode.{PlayMode}
 use Rattle.design.specs.declared.PlayMode.TheVariants.{Poly, Mono}
 use Rattle.outcome.specs.declared.Refusal.{Refusal}
-use Rattle.outcome.specs.Numbers.{number_of}
 use Rattle.design.specs.Accepted.{is_accepted}
 use Rattle.model.specs.Types.{Model, Control, Call, Reply, Outcome}
 use Rattle.model.specs.Types.{Call.note_on, Call.control, Call.plan, Call.mix}
@@ -170,9 +169,9 @@ host-accepted d e = by (mode_numbered d) refl
         let y : ⊥ = omega arith in
         absurd y
 
-pub host-account : HostHandleAccount
+pub host_account : HostHandleAccount
 unfolding HostHandleAccount host_accepted
-host-account d r a y xs g =
+host_account d r a y xs g =
     let e : host_accepted d ≡ true = host-accepted d (said-accepted (host_design_reply d) (ap (λ (x : HostReply). x.kind) (sym a.reply) ∙ y)) in
     let v : model_of r.state ≡ fresh (design_of d) = a.state ∙ cond-true (host_accepted d) (fresh (design_of d)) zero_state e in
     account-of host host-steps (design_of d) (both (mode_numbered d) (is_accepted (design_of d)) e).1 r.state a.numbered v xs g

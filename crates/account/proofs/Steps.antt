@@ -24,11 +24,11 @@ refused-stays m c e = rw e
 
 -- one call on a state whose counts are in room
 module _ (s : Instrument) (room : counted s ≡ true) (c : Call) (said : Reply) (t : Instrument) (a : StepAs s c said t) where
-  same-refusal : refusal_of s c ≡ refusal (view s) c
+  pub same-refusal : refusal_of s c ≡ refusal (view s) c
   unfolding refusal_of
   same-refusal = rw room
 
-  said-is : said ≡ (step (view s) c).reply
+  pub said-is : said ≡ (step (view s) c).reply
   unfolding reply_to
   said-is = a.reply ∙ cond-true (counted s) _ _ room
 
@@ -72,9 +72,9 @@ module _ (m : Model) (k : Account m) (s : Instrument) (xs : List Ran) (f : Follo
   pub joined : Perm (table (view (last_of s xs)) ++ (silent_in xs ++ (taken_in xs ++ ended_in xs))) (issued_in xs)
   joined = rw (f.replied, f.last) (k.accounted (calls_of xs))
 
-pub calls-are-steps : CallsAreSteps
+pub calls_are_steps : CallsAreSteps
 unfolding CallsAreSteps HandleAccount start_of
-calls-are-steps d e r a xs g =
+calls_are_steps d e r a xs g =
     let v : view r.state ≡ fresh d = a.state ∙ cond-true (is_accepted d) (fresh d) zero_state e in
     let f : Follows (fresh d) r.state xs = rw v at (follows r.state a.in_room xs g) in
     let k = handle-account d e in
