@@ -4,6 +4,7 @@ use envelope::Stage;
 use instrument::Instrument;
 use note::Note;
 use patterns::{fits, fits_one, float_of, word_of};
+use std::array;
 use voice::Voice;
 
 // The next handle, the frames of the open block, the numbers of voices and of held notes.
@@ -22,20 +23,11 @@ fn counted(s: &mut Instrument, line: &[u8]) -> bool {
     true
 }
 
-// The notes from 0 to 255.
-fn each_note() -> [Note; 256] {
-    let mut notes = [Note(0); 256];
-    for n in 0..=255u8 {
-        notes[n as usize] = Note(n);
-    }
-    notes
-}
-
-// The held notes all 60, or from 0 on.
+// The held notes all 60, or from 0 to 255.
 fn holding(s: &mut Instrument, line: &[u8]) -> bool {
     match line {
         b"(same)" => s.held.notes = [Note(60); 256],
-        b"(each)" => s.held.notes = each_note(),
+        b"(each)" => s.held.notes = array::from_fn(|n| Note(n as u8)),
         _ => return false,
     }
     true

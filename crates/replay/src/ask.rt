@@ -184,26 +184,16 @@ fn midi_of(line: &[u8]) -> Option<Request> {
 
 fn other(line: &[u8]) -> Option<Request> {
     match line {
-        b"(copies)" => return Some(Request::Show(Part::Copies)),
-        b"(state)" => return Some(Request::Show(Part::State)),
-        _ => {}
+        b"(copies)" => Some(Request::Show(Part::Copies)),
+        b"(state)" => Some(Request::Show(Part::State)),
+        _ => env_call_of(line)
+            .map(Request::Env)
+            .or_else(|| call_of(line).map(Request::Call))
+            .or_else(|| query_of(line).map(Request::Query))
+            .or_else(|| plan_of(line).map(Request::Plan))
+            .or_else(|| mix_of(line).map(Request::Mix))
+            .or_else(|| midi_of(line)),
     }
-    if let Some(c) = env_call_of(line) {
-        return Some(Request::Env(c));
-    }
-    if let Some(c) = call_of(line) {
-        return Some(Request::Call(c));
-    }
-    if let Some(q) = query_of(line) {
-        return Some(Request::Query(q));
-    }
-    if let Some(p) = plan_of(line) {
-        return Some(Request::Plan(p));
-    }
-    if let Some(m) = mix_of(line) {
-        return Some(Request::Mix(m));
-    }
-    midi_of(line)
 }
 
 pub fn read(line: &[u8]) -> Option<Request> {

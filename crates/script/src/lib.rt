@@ -28,6 +28,8 @@ pub struct Said {
     pub count: usize,
 }
 
+// With no heap the buffer is lent: a text goes to a place, and gives the place behind it.
+
 #[tactic(auto, using(crate::proofs::Prints::puts_both, crate::proofs::Prints::part_length))]
 fn put_decimal(out: &mut [u8], at: usize, lead: &[u8], n: u64) -> usize
     ensures puts { Puts (decimal_part lead.now n) out.old at out.new result }
