@@ -3,10 +3,10 @@ use Rattle.std.specs.Prelude.{Ok, Err}
 use mathlib.Core.Path.{◌≡◌, refl, ap, sym, ◌∙◌}
 use mathlib.Core.Bool.{Bool, true, false, not, cond}
 use mathlib.Core.List.{List, map}
-use Prim.Native.Nat.{ℕ, ◌*◌, ◌≤◌, ◌^◌}
+use Prim.Native.Nat.{ℕ, ◌*◌, ◌≤◌}
 use native.Mathlib.Omega.{arith}
 use borrow.Author.Tests.{leb-true, eq-eqb, ne_eqb, eqb-true, eqb-false, not-false}
-use lib.Dec.{T, leb, eqb, le→leb}
+use lib.Dec.{T, leb, eqb}
 use lib.Ieee.{Float, binary32, mul, in_float}
 use lib.IntN.{pos}
 use lib.ListN.{length}
@@ -18,6 +18,7 @@ use Rattle.stream.specs.Pitch.{glided}
 use Rattle.design.specs.declared.InstrumentDesign.{InstrumentDesign}
 use Rattle.design.specs.Accepted.{is_accepted, modulated, copies_of}
 use Rattle.envelope.specs.Start.{rate_fits}
+use Rattle.envelope.proofs.Starts.{rate-float}
 use Rattle.design.proofs.Limits.{rate-fits}
 use Rattle.model.specs.Types as M
 use Rattle.model.specs.Changes.{moved, blocked}
@@ -52,9 +53,8 @@ frames-most d n e = by (modulated d.modulation) (leb-true n _ (both (leb 1 n) _ 
     by true h = omega arith
     by false h = h
 
-pub frames-float : (n : ℕ) → n ≤ 1024 → T (in_float binary32 (pos n))
-unfolding in_float
-frames-float n h = le→leb n (2 ^ 24) (omega arith)
+pub rate_float : (rate : ℕ) → rate_fits rate ≡ true → T (in_float binary32 (pos rate))
+rate_float rate e = rate-float rate e
 
 -- ---- the refusals
 

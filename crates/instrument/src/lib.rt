@@ -139,6 +139,7 @@ fn times_fit(design: InstrumentDesign)
 {}
 
 // The theorem that no list of calls from a start reaches a NaN level, of every design that the code can hold.
+#[tactic(auto, using(crate::proofs::Levels::start_levels))]
 pub fn levels_within(design: InstrumentDesign)
     ensures { StartLevels design }
 {
@@ -426,6 +427,7 @@ impl Instrument {
     }
 
     // Whether a handle is in the table.
+    #[tactic(auto, using(crate::proofs::Queries::active_in), unfolding(crate::specs::Asked::asked_of, crate::specs::View::formed, voice::specs::View::shown))]
     pub fn is_active(&self, handle: u64) -> Result<bool, Refusal>
         ensures { active_of result ≡ asked_of self.now (is_active (view self.now) handle) }
     {
@@ -437,6 +439,7 @@ impl Instrument {
     }
 
     // How many voices are in the table.
+    #[tactic(auto, unfolding(crate::specs::Asked::asked_of, crate::specs::View::formed, crate::specs::View::view, model::specs::Queries::active_voices))]
     pub fn active_voices(&self) -> Result<usize, Refusal>
         ensures { voices_of result ≡ asked_of self.now (active_voices (view self.now)) }
     {

@@ -42,6 +42,7 @@ fn tremolo_gain(m: Modulation, sine: f32) -> f32
 }
 
 // Seconds of a block. Both numbers are floats exactly.
+#[tactic(auto, using(crate::proofs::Plans::rate_float))]
 fn step_of(frames: usize, rate: u32) -> f32
     requires { (frames ≤ 1024) × (rate_fits rate ≡ true) }
     ensures { result ≡ step_of frames rate }
