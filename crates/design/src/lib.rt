@@ -58,7 +58,7 @@ impl Modulation {
     }
 
     // Whether all six are numbers.
-    #[tactic(auto, using(crate::proofs::Tests::six), unfolding(crate::specs::Accepted::modulation_finite, envelope::specs::Start::all_finite))]
+    #[tactic(auto, unfolding(crate::specs::Accepted::modulation_finite, envelope::specs::Start::all_finite))]
     pub fn all_finite(self) -> bool
         ensures { result ≡ modulation_finite self }
     {
@@ -115,7 +115,7 @@ impl InstrumentDesign {
             && self.unison <= 8
     }
 
-    #[tactic(auto, using(crate::proofs::Tests::six_and), unfolding(crate::specs::Accepted::floats_fit, envelope::specs::Start::all_finite))]
+    #[tactic(auto, unfolding(crate::specs::Accepted::floats_fit, envelope::specs::Start::all_finite))]
     fn floats_fit(self) -> bool
         ensures { result ≡ floats_fit self }
     {

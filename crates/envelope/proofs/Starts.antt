@@ -1,12 +1,14 @@
--- What the tests of `EnvGen::new` say.
-use mathlib.Core.Path.{◌≡◌, refl}
-use mathlib.Core.Bool.{Bool, true, false, ◌&&◌}
+-- What a rate within the limits is, and the laws that the functions name.
+use mathlib.Core.Path.{◌≡◌}
+use mathlib.Core.Bool.{true}
 use Prim.Native.Nat.{ℕ, ◌≤◌, ◌^◌}
 use native.Mathlib.Omega.{arith}
 use borrow.Author.Tests.{leb-true}
 use lib.Dec.{T, leb, le→leb}
 use lib.Ieee.{in_float, binary32}
 use lib.IntN.{pos}
+use Rattle.std.proofs.lemmas.Iterator.{YieldsList-from_slice}
+use Rattle.std.proofs.lemmas.Iterator.Search.{all_from_yields_List}
 use Rattle.lists.specs.Choose.{both}
 use Rattle.envelope.specs.Start.{rate_fits}
 
@@ -19,12 +21,7 @@ pub rate-float : (n : ℕ) → rate_fits n ≡ true → T (in_float binary32 (po
 unfolding in_float
 rate-float n e = le→leb n (2 ^ 24) (let h = rate-most n e in omega arith)
 
--- four tests, as the list of them has it
-pub four : (a b c d : Bool) → a && (b && (c && (d && true))) ≡ a && (b && (c && d))
-four true true true true = refl
-four true true true false = refl
-four true true false d = refl
-four true false c d = refl
-four false b c d = refl
+-- that `all` looks at each element
+pub ruleset each = (YieldsList-from_slice, all_from_yields_List)
 
-pub ruleset tests_of_new = (rate-float, four)
+pub ruleset rates = (rate-float)

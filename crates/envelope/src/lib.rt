@@ -45,6 +45,7 @@ pub fn rate_fits(rate: u32) -> bool
 }
 
 // Whether all settings are numbers.
+#[tactic(auto, using(crate::proofs::Starts::each))]
 pub fn all_finite(settings: &[f32]) -> bool
     ensures { result ≡ list_all finite settings.now }
 {
@@ -60,7 +61,7 @@ fn refused(reason: Refusal) -> Outcome<EnvGen, ()>
 
 impl EnvGen {
     // Four settings and no struct of them: the Rust's `EnvGen::new` takes them so.
-    #[tactic(auto, using(crate::proofs::Starts::tests_of_new), unfolding(crate::specs::Start::new_env, crate::specs::Start::settled, crate::specs::Start::all_finite))]
+    #[tactic(auto, using(crate::proofs::Starts::rates), unfolding(crate::specs::Start::new_env, crate::specs::Start::settled, crate::specs::Start::all_finite))]
     pub fn new(a: f32, d: f32, s: f32, r: f32, rate: u32) -> Outcome<EnvGen, ()>
         ensures { result ≡ new_env a d s r rate }
     {

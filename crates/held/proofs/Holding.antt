@@ -4,13 +4,12 @@ use mathlib.Core.Bool.{Bool, true, false, not}
 use Rattle.std.specs.Prelude.{Option, Some, None}
 use Rattle.std.specs.List.{slice_get}
 use Rattle.std.specs.Option.{option_map, option_copied, MatchOption, IsSomeAnd}
-use Rattle.std.proofs.Common.{get_or-take}
-use Rattle.std.proofs.lemmas.Option.{none-some, same_Some, slice_get_past, slice_get-get_or}
+use Rattle.std.proofs.lemmas.Option.{none-some, same_Some, slice_get-map, slice_get-get_or}
 use denote.Bor.{Bor}
-use mathlib.Core.List.{List, [], ◌∷◌, ◌++◌, append-nil}
+use mathlib.Core.List.{List, [], ◌∷◌, ◌++◌, map, append-nil}
 use Prim.Native.Nat.{ℕ, ◌+◌, ◌-◌, ◌≤◌, ◌<◌, min}
 use native.Mathlib.Omega.{arith}
-use borrow.Author.Tests.{eq-eqb, ne_eqb, eqb-true, eqb-false, lt-ltb, ltb-true, ltb-false}
+use borrow.Author.Tests.{eq-eqb, ne_eqb, lt-ltb, ltb-true, ltb-false}
 use lib.Dec.{eqb, ltb}
 use lib.ListN.{length, get_or, set, length-set, take, length-map, length-take, length-append}
 use lib.Seq.{take_all, take-append-le}
@@ -18,12 +17,12 @@ use Rattle.lists.specs.All.{all}
 use Rattle.lists.specs.Choose.{both}
 use Rattle.lists.specs.Perms.{times, distinct, times-of-distinct, distinct-short}
 use Rattle.lists.specs.Places.{kept_append, kept-none, kept-le, count_kept}
-use Rattle.lists.specs.Prefix.{shown-length, shown-at, shown-push, get_d_any}
+use Rattle.lists.specs.Prefix.{shown-length, shown-push}
 use Rattle.note.specs.declared.Note.{Note}
 use Rattle.model.specs.Notes.{held_without, held_with, newest_held, none_held}
 use Rattle.held.specs.View.{number_of_note, held_first, held_in, newest_in, byte, Holds}
 use Rattle.held.specs.declared.Held.{Held}
-use Rattle.held.proofs.Flags.{held_more, held-least}
+use Rattle.held.proofs.Flags.{held_more, held_whole}
 
 -- after i notes: what is kept stands in front, and each of it is a byte
 pub record Keeping (held : List Note) (note w i : ℕ) (notes : List Note) : Type 0 where
@@ -66,59 +65,37 @@ module _ (held : List Note) (note w i : ℕ) (notes : List Note) (d : Note) (h :
       let s : held_without note (held_first (i + 1) held) ≡ held_without note (held_first i held) = one_more ∙ rw (eq-eqb (get_or held i d).0 note e, append-nil) in
       record { front = rw s k.front; size = k.size; order = let o = k.order in omega arith; bytes = rw s k.bytes }
 
-no : Note
-no = record { 0 = 0 }
+pub keeping-end : (held : List Note) (note w i : ℕ) (notes : List Note) → length held ≤ i → w ≤ 256 → Keeping held note w i notes
+    → Holds (held_without note (map number_of_note held)) (record { notes = notes; count = w })
+keeping-end held note w i notes h small k =
+    let z = k.size in
+    let l = held_whole i held h in
+    let is : held_first w notes ≡ held_without note (map number_of_note held) = k.front ∙ ap (held_without note) l in
+    record { notes = is; count = sym (shown-length number_of_note w notes (omega arith)) ∙ ap length is; bytes = rw l at k.bytes }
 
--- notes of a record, of which there are 256
-module _ (h : Held) (len : length h.notes ≡ 256) where
-  pub held-size : length (held_in h) ≡ min h.count 256
-  held-size = simp (length-map, length-take, len)
+-- the newest is the last
+newest-last : (l : List ℕ) → slice_get l (length l - 1) ≡ newest_in l
+unfolding newest_in newest_held none_held
+newest-last [] = refl
+newest-last (x ∷ l) =
+    rw (ne_eqb (length (x ∷ l)) 0 (λ (z : length (x ∷ l) ≡ 0). omega arith))
+    (slice_get-get_or (x ∷ l) (length (x ∷ l) - 1) 0 (omega arith))
 
-  pub keeping-end : (note n i w : ℕ) (notes : List Note) → n ≡ min h.count 256 → n ≤ i → w ≤ 256 → Keeping (take n h.notes) note w i notes
-      → Holds (held_without note (held_in h)) (record { notes = notes; count = w })
-  keeping-end note n i w notes en ei small k =
-      let z = k.size in
-      let l = held-least h.count h.notes len n i en ei in
-      let is : held_first w notes ≡ held_without note (held_in h) = k.front ∙ ap (held_without note) l in
-      record { notes = is; count = sym (shown-length number_of_note w notes (omega arith)) ∙ ap length is; bytes = rw l at k.bytes }
+pub newest-of : (notes : List Note) (last : Option (Bor Note)) (r : Option ℕ) (P : Bor Note → ℕ → Type 0)
+    → option_copied last ≡ slice_get notes (length notes - 1) → MatchOption last (r ≡ None) (λ x. IsSomeAnd r (P x))
+    → ((x : Bor Note) (k : ℕ) → P x k → k ≡ x.now.0) → r ≡ newest_in (map number_of_note notes)
+newest-of notes last r P e m f = answered last r m ∙ ap (option_map number_of_note) e ∙ seen
+  where
+    answered : (last : Option (Bor Note)) (r : Option ℕ) → MatchOption last (r ≡ None) (λ x. IsSomeAnd r (P x)) → r ≡ option_map number_of_note (option_copied last)
+    answered None r m = m
+    answered (Some x) None m = absurd m
+    answered (Some x) (Some k) m = ap Some (f x k m)
 
-  -- the newest is the last of those that count
-  newest-at : (n : ℕ) → n ≡ min h.count 256 → (n ≡ 0 → ⊥) → newest_in (held_in h) ≡ Some (get_or h.notes (n - 1) no).0
-  unfolding newest_in newest_held none_held
-  newest-at n en z =
-      let s = held-size in
-      let e : length (held_in h) - 1 ≡ n - 1 = omega arith in
-      rw (ne_eqb (length (held_in h)) 0 (λ (q : length (held_in h) ≡ 0). z (omega arith)))
-      (ap (λ (i : ℕ). Some (get_or (held_in h) i 0)) e
-      ∙ ap Some (get_d_any (held_in h) (n - 1) 0 no.0 (omega arith) ∙ shown-at number_of_note h.count h.notes (n - 1) no (omega arith)))
-
-  newest-past : (n : ℕ) → n ≡ min h.count 256 → n ≡ 0 → newest_in (held_in h) ≡ None
-  unfolding newest_in none_held
-  newest-past n en z = let s = held-size in rw (eq-eqb (length (held_in h)) 0 (omega arith))
-
-  newest-last : (n : ℕ) → n ≡ min h.count 256 → option_map number_of_note (slice_get (take n h.notes) (length (take n h.notes) - 1)) ≡ newest_in (held_in h)
-  newest-last n en = by (eqb n 0) refl
-    where
-      size : length (take n h.notes) ≡ n
-      size = simp length-take (omega arith)
-
-      by : (b : Bool) → eqb n 0 ≡ b → option_map number_of_note (slice_get (take n h.notes) (length (take n h.notes) - 1)) ≡ newest_in (held_in h)
-      by true e =
-          let z = eqb-true n 0 e in
-          rw (slice_get_past (take n h.notes) (length (take n h.notes) - 1) (omega (arith, size)), newest-past n en z)
-      by false e =
-          let z = eqb-false n 0 e in
-          rw (size, slice_get-get_or (take n h.notes) (n - 1) no (omega (arith, size)), get_or-take n h.notes (n - 1) no (omega arith), newest-at n en z)
-
-  pub newest-of : (n : ℕ) (last : Option (Bor Note)) (r : Option ℕ) (P : Bor Note → ℕ → Type 0) → n ≡ min h.count 256
-      → option_copied last ≡ slice_get (take n h.notes) (length (take n h.notes) - 1) → MatchOption last (r ≡ None) (λ x. IsSomeAnd r (P x))
-      → ((x : Bor Note) (k : ℕ) → P x k → k ≡ x.now.0) → r ≡ newest_in (held_in h)
-  newest-of n last r P en e m f = answered last r m ∙ ap (option_map number_of_note) e ∙ newest-last n en
-    where
-      answered : (last : Option (Bor Note)) (r : Option ℕ) → MatchOption last (r ≡ None) (λ x. IsSomeAnd r (P x)) → r ≡ option_map number_of_note (option_copied last)
-      answered None r m = m
-      answered (Some x) None m = absurd m
-      answered (Some x) (Some k) m = ap Some (f x k m)
+    seen : option_map number_of_note (slice_get notes (length notes - 1)) ≡ newest_in (map number_of_note notes)
+    seen =
+        sym (slice_get-map number_of_note notes (length notes - 1))
+        ∙ ap (λ (n : ℕ). slice_get (map number_of_note notes) (n - 1)) (sym (length-map notes number_of_note))
+        ∙ newest-last (map number_of_note notes)
 
 -- what an answer of `newest` says of the list
 pub newest-some : (l : List ℕ) (x : ℕ) → newest_in l ≡ Some x → (none_held l ≡ false) × (x ≡ newest_held l)
@@ -159,7 +136,8 @@ module _ (note : ℕ) (l : List ℕ) (rest : Held) (len : length rest.notes ≡ 
   unfolding held_with
   with-full h =
       let c = r.count in
-      let s = ap length (sym r.notes) ∙ held-size rest len in
+      let s = ap length (sym r.notes) in
+      let n : length (held_in rest) ≡ min rest.count 256 = simp (length-map, length-take, len) in
       rw (full-same (held_without note l) note (omega arith)) r
 
 -- where no note was held twice there is room

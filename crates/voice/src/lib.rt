@@ -22,7 +22,7 @@ use stream::UnisonCopy;
 pub struct Voice {
     pub handle: u64,
     pub note: Note,
-    // The unison copies, up to `copy_count`.
+    // The unison copies, up to `copy_count`: fixed memory, nothing is on the heap.
     pub copies: [UnisonCopy; 8],
     pub copy_count: usize,
     // The frequency that the copies were built at.

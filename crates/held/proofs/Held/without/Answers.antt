@@ -1,9 +1,9 @@
-use Rattle.held.proofs.Holding.{keeping_start, keeping-more, keeping-skip, keeping-end}
-use borrow.Author.Rules.{rules}
-use mathlib.Core.Path.{◌≡◌}
-use native.Mathlib.Omega.{arith}
+use mathlib.Core.Path.{◌≡◌, ap}
 use Prim.Native.Nat.{◌<◌}
+use native.Mathlib.Omega.{arith}
+use borrow.Author.Rules.{rules}
 use lib.ListN.{length, length-take}
+use Rattle.held.proofs.Holding.{keeping_start, keeping-more, keeping-skip, keeping-end}
 use Rattle.held.proofs.Held.without.Goals as goal
 use Rattle.held.proofs.Held.without.Goals.{then-other-note, else-other-note}
 
@@ -12,21 +12,28 @@ loop-other-init c = keeping_start _ _ _ (search rules)
 
 pub loop-other-preserved : goal.loop-other-preserved
 loop-other-preserved c =
-    let i = c.loop-other-test.true in
-    let size = length-take c.min-end.result c.args.self.now.notes in
-    let long : length c.args.self.now.notes ≡ 256 = search rules in
+    let h = c.args.self.now in
+    let s = c.as_slice-other-items in
+    let size = length-take h.count h.notes in
+    let few = ap length s.ensures in
+    let long : length h.notes ≡ 256 = search rules in
     let k = c.loop-other.invariant in
     let small : c.loop-other.count < 256 = omega arith in
     (elim c.if-other-note.branch [
-      | then-other-note w ↦ rw (w.notes-is, w.count-is) (keeping-more _ _ _ _ _ (record { 0 = 0 }) (omega arith) k (omega arith) small w.if-other-note.true)
-      | else-other-note w ↦ rw (w.notes-is, w.count-is) (keeping-skip _ _ _ _ _ (record { 0 = 0 }) (omega arith) k w.if-other-note.false)
+      | then-other-note w ↦
+          rw (w.notes-is, w.count-is) (keeping-more s.result.now _ _ _ _ (record { 0 = 0 }) c.loop-other-test.true k (omega arith) small w.if-other-note.true)
+      | else-other-note w ↦ rw (w.notes-is, w.count-is) (keeping-skip s.result.now _ _ _ _ (record { 0 = 0 }) c.loop-other-test.true k w.if-other-note.false)
     ])
 
 pub returns : goal.returns
 returns c =
     let h = c.args.self.now in
+    let s = c.as_slice-other-items in
+    let size = length-take h.count h.notes in
+    let few = ap length s.ensures in
     let long : length h.notes ≡ 256 = search rules in
-    let size = length-take c.min-end.result h.notes in
-    let i = c.loop-other-test.false in
-    let o = c.loop-other.invariant.order in
-    keeping-end h long _ c.min-end.result c.loop-other.other-index _ _ c.min-end.ensures (omega arith) (omega arith) c.loop-other.invariant
+    let k = c.loop-other.invariant in
+    let o = k.order in
+    let q = c.loop-other.auto in
+    let e = keeping-end s.result.now c.args.note _ c.loop-other.other-index _ c.loop-other-test.false (omega arith) k in
+    rw s.ensures at e
