@@ -114,12 +114,6 @@ module _ (r : Table) (len : length r.voices ≡ 64) (few : r.count ≤ 64) where
         record { table = rw (t, at) (holds-changed r len r.count least killed_voice k w (inside k q e) ew); handle = rw t (named k q e) }
 
   module _ (n : ℕ) where
-    pub take-none : r.count < n → TakenAs n r r None
-    take-none h =
-        let s = voices-size in
-        let t = lt-leb n (length (voices_in r)) (omega arith) in
-        record { table = rw t (holds_same r len r.count least); handle = rw t }
-
     pub take-nobody : n ≤ r.count → None ≡ place_in (quietest (voices_in r)) (voices_in r) → TakenAs n r r None
     take-nobody h e =
         let q = quietest (voices_in r) in

@@ -11,7 +11,7 @@ use lib.Ieee.{Float}
 use lib.ListN.{length, take, drop, set, get_or, length-take, length-drop, length-map, drop_of_length-le, take-append-drop}
 use lib.Seq.{take_all, set-get_or, drop-drop}
 use Rattle.lists.specs.Parts.{part_length, part-front, part-rest, rest-on, no_length}
-use Rattle.lists.specs.Pass.{Pass, pass-start, pass-read, pass-keep}
+use Rattle.lists.specs.Pass.{Pass, pass-read, pass-keep}
 use Rattle.lists.specs.Prefix.{drop_more, shown-length}
 use Rattle.stream.specs.Pitch.{curve}
 use Rattle.model.specs.Voices.{copies_in}
@@ -84,9 +84,6 @@ pub record Gliding (n c : ℕ) (vs : List Voice) (old : List Float) (ws : List V
   pub left : Before (drawn n (seen_first c vs) old) (drawn n (drop i (seen_first c vs)) (drop at old)) (seen_first i ws) (take at new)
 
 module _ (n c : ℕ) (vs : List Voice) (old : List Float) (few : c ≤ length vs) where
-  pub gliding-start : Gliding n c vs old vs old 0 0
-  gliding-start = record { room = omega arith; size = refl; back = refl; pass = pass-start seen vs; left = record { voices = refl; curve = refl } }
-
   module _ {ws : List Voice} {new : List Float} {at i : ℕ} (p : Gliding n c vs old ws new at i) (less : i < c) where
     abbrev v : Voice
     v = get_or ws i past_end

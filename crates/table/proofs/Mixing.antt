@@ -9,7 +9,7 @@ use borrow.Author.Tests.{leb-true, leb-false, le-leb}
 use lib.Dec.{leb}
 use lib.Ieee.{Float}
 use lib.ListN.{length, take, drop, get_or, set, replicate, length-replicate, length-map, length-take, length-drop, drop_of_length-le}
-use lib.Seq.{take_all, drop-drop}
+use lib.Seq.{drop-drop}
 use Rattle.lists.specs.All.{all-kept}
 use Rattle.lists.specs.Choose.{both, clash}
 use Rattle.lists.specs.Pass.{pass-start}
@@ -159,27 +159,6 @@ module _ (t : Table) (long : length t.voices ≡ 64) (n : ℕ) (trem : Float) (x
   pub mixed-more : (i : ℕ) (v : Voice) → i < min t.count 64 → v ≡ get_or t.voices i past_end
       → mixed_to n trem t xs left right (i + 1) ≡ mix_next n trem (mixed_to n trem t xs left right i) (seen v)
   mixed-more i v h r = fold_more (mix_next n trem) _ (seen_in t) i no_seen (let s = size in omega arith) ∙ rw (seen_at t.count t.voices i (omega arith), ← r)
-
-  -- all k voices are done
-  pub mixed-end : {es : List ℕ} {left' right' : List Float} {ended : List ℕ} {ws : List Voice} {gone p i : ℕ} (frames k : ℕ) → n ≡ min frames 1024
-      → k ≡ min t.count 64 → i ≡ k → UnderWay (mixed_to n trem t xs left right i) t.voices xs es left' right' ended ws gone p i
-      → MixedTable frames trem t xs left right es left' right' ended (record { voices = ws; count = k - gone })
-  mixed-end {ws = ws} {gone = gone} {i = i} frames k e c j d =
-      let s = size in
-      let all : take i (seen_in t) ≡ seen_in t = take_all i (seen_in t) (omega arith) in
-      let u = rw (all, e) at d in
-      let p = u.table.pass in
-      let o = p.order in
-      let z = p.size in
-      let y = u.table.places in
-      let stay : k - gone ≡ u.stay = omega arith in
-      rw stay
-      (record {
-        table = record { seen = p.front; count = sym (shown-length seen u.stay ws (omega arith)) ∙ ap length p.front };
-        left_sums = u.left_sums;
-        right_sums = u.right_sums;
-        report = u.table.report;
-      })
 
 -- ---- a block that fits
 

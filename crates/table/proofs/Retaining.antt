@@ -1,5 +1,5 @@
 -- The pass that drops ended voices and reports them, at one turn.
-use mathlib.Core.Path.{◌≡◌, refl, ap, subst, ◌∙◌}
+use mathlib.Core.Path.{◌≡◌, refl, ap, subst}
 use mathlib.Core.Bool.{Bool, true, false, not}
 use mathlib.Core.List.{List, [], ◌∷◌, ◌++◌, map, map-append, append-nil}
 use Prim.Native.Nat.{ℕ, zero, suc, ◌+◌, ◌-◌, ◌≤◌, ◌<◌}
@@ -24,12 +24,6 @@ report-more [] (e ∷ es) h = refl
 report-more (x ∷ l) [] h = refl
 report-more (x ∷ l) (e ∷ es) h = ap (◌∷◌ x) (report-more l es h)
 
--- and as many places as before
-length-reported : (l es : List ℕ) → length (reported l es) ≡ length es
-length-reported [] es = refl
-length-reported (h ∷ l) [] = refl
-length-reported (h ∷ l) (e ∷ es) = ap suc (length-reported l es)
-
 ended-more : (l : List Seen) (x : Seen)
     → ended_handles (voices_of (l ++ (x ∷ []))) ≡ ended_handles (voices_of l) ++ map (λ (v : model.Voice). v.handle) (kept is_ended (x.voice ∷ []))
 unfolding ended_handles
@@ -41,9 +35,6 @@ pub record Retaining (l : List Seen) (es : List ℕ) (w k i : ℕ) (ws : List Vo
   pub report : ended ≡ reported (ended_handles (voices_of l)) es
   pub many : k ≡ length (ended_handles (voices_of l))
   pub places : w + k ≡ i
-
-pub report-long : {l : List Seen} {es : List ℕ} {w k i : ℕ} {ws : List Voice} {ended : List ℕ} {vs : List Voice} → Retaining l es w k i ws ended vs → length ended ≡ length es
-report-long {l} {es} d = ap length d.report ∙ length-reported (ended_handles (voices_of l)) es
 
 -- v is the next voice, done, and stored where it stood; a voice that goes on moves up where some before it have ended
 module _ {l : List Seen} {es : List ℕ} {w k i : ℕ} {ws : List Voice} {ended : List ℕ} {vs : List Voice} (v : Voice) (d : Retaining l es w k i ws ended vs) where

@@ -37,6 +37,7 @@ pub struct Added {
 }
 
 // Whether a voice is below another by level.
+#[tactic(auto, unfolding(model::specs::Voices::quieter, voice::specs::View::shown))]
 fn quieter(v: Voice, w: Voice) -> bool
     ensures { result ≡ quieter_of (shown v) (shown w) }
 {
@@ -109,6 +110,7 @@ impl Table {
     }
 
     // The quietest among those not releasing.
+    #[tactic(auto, unfolding(model::specs::Voices::quietest_sounding, voice::specs::View::shown))]
     pub fn quietest_sounding(&self) -> Option<usize>
         ensures { result ≡ place_in (quietest_sounding (voices_in self.now)) (voices_in self.now) }
     {
@@ -116,6 +118,7 @@ impl Table {
     }
 
     // The quietest among all.
+    #[tactic(auto, unfolding(model::specs::Voices::quietest))]
     pub fn quietest(&self) -> Option<usize>
         ensures { result ≡ place_in (quietest_of (voices_in self.now)) (voices_in self.now) }
     {
@@ -181,10 +184,8 @@ impl Table {
             return None;
         }
         let victim = self.quietest()?;
-        let mut voices = self.voices;
-        let handle = voices[victim].handle;
-        voices.copy_within(victim + 1..self.count, victim);
-        self.voices = voices;
+        let handle = self.voices[victim].handle;
+        self.voices.copy_within(victim + 1..self.count, victim);
         self.count -= 1;
         Some(handle)
     }

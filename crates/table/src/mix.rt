@@ -9,6 +9,7 @@ use crate::Table;
 fn report(handle: u64, place: usize, ended: &mut [u64])
     ensures { ended.new ≡ set ended.old place handle }
 {
+    // No `get_mut`: of what is written through it the proof knows only the length.
     if place < ended.len() {
         ended[place] = handle;
     }
@@ -34,8 +35,8 @@ impl Table {
         let count = self.count.min(64);
         let mut gone: usize = 0;
         let mut at: usize = 0;
-        let mut i: usize = 0;
-        while i < count {
+        // By place: one that goes on is put where one that has ended stood.
+        for i in 0..count {
             let v = self.voices[i];
             let env = render::add_voice(v, n, trem, samples, at, left, right);
             at = (at + n * v.copies_shown()).min(samples.len());
@@ -46,7 +47,6 @@ impl Table {
             } else if 0 < gone {
                 self.voices[i - gone] = self.voices[i];
             }
-            i += 1;
         }
         self.count = count - gone;
         self

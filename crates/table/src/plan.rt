@@ -14,8 +14,8 @@ impl Table {
         let n = frames.min(1024);
         let count = self.count.min(64);
         let mut at: usize = 0;
-        let mut i: usize = 0;
-        while i < count {
+        // By place: of a slice of the field that a loop writes, the proof knows nothing afterwards.
+        for i in 0..count {
             let v = self.voices[i];
             let end = (at + n * v.copies_shown()).min(curve.len());
             // A voice that stands need not be put back.
@@ -25,7 +25,6 @@ impl Table {
                 self.voices[i] = glide_voice(v, n, &mut curve[at..end]);
             }
             at = end;
-            i += 1;
         }
         self.count = count;
         self

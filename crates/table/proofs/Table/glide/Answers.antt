@@ -1,42 +1,11 @@
 use mathlib.Core.Path.{refl}
 use Prim.Native.Nat.{◌+◌}
-use native.Mathlib.Nat.{mul-le-mul}
 use native.Mathlib.Omega.{arith}
 use Rattle.curves.proofs.Standing.{stands-glides}
 use Rattle.table.proofs.Sizes.{voices-long}
-use Rattle.table.proofs.Gliding.{Gliding, gliding-start, glide-moves, glide-stands, glided-table}
+use Rattle.table.proofs.Gliding.{Gliding, glide-moves, glide-stands, glided-table}
 use Rattle.table.proofs.Table.glide.Goals as goal
 use Rattle.table.proofs.Table.glide.Goals.{then-stands, else-stands}
-
-pub loop-i-init : goal.loop-i-init
-loop-i-init c =
-    let l = voices-long c.args.self c.well_formed.0 in
-    let e = c.min-n.ensures in
-    (omega arith, omega arith, omega arith, gliding-start _ _ _ _ (omega arith))
-
-pub overflow_mul-n : goal.overflow_mul-n
-overflow_mul-n c = omega (arith, mul-le-mul c.loop-i.invariant.2 c.copies_shown.ensures.0)
-
-pub overflow_add-at : goal.overflow_add-at
-overflow_add-at c = omega (arith, mul-le-mul c.loop-i.invariant.2 c.copies_shown.ensures.0)
-
-pub offset_bounds-curve-at : goal.offset_bounds-curve-at
-offset_bounds-curve-at c = let p = c.loop-i.invariant.3 in let r = p.room in let s = p.size in omega arith
-
-pub slice_bounds-write_standing-count : goal.slice_bounds-write_standing-count
-slice_bounds-write_standing-count c = let p = c.loop-i.invariant.3 in let r = p.room in let s = p.size in omega arith
-
-pub slice_bounds-write_standing-end : goal.slice_bounds-write_standing-end
-slice_bounds-write_standing-end c = let p = c.loop-i.invariant.3 in let r = p.room in let s = p.size in omega arith
-
-pub offset_bounds-curve-at-else-stands : goal.offset_bounds-curve-at-else-stands
-offset_bounds-curve-at-else-stands c = let p = c.loop-i.invariant.3 in let r = p.room in let s = p.size in omega arith
-
-pub slice_bounds-glide_voice-count : goal.slice_bounds-glide_voice-count
-slice_bounds-glide_voice-count c = let p = c.loop-i.invariant.3 in let r = p.room in let s = p.size in omega arith
-
-pub slice_bounds-glide_voice-end : goal.slice_bounds-glide_voice-end
-slice_bounds-glide_voice-end c = let p = c.loop-i.invariant.3 in let r = p.room in let s = p.size in omega arith
 
 pub loop-i-preserved : goal.loop-i-preserved
 loop-i-preserved c =
@@ -48,14 +17,14 @@ loop-i-preserved c =
     c.if-stands.self.voices c.if-stands.curve c.min-end.result (c.loop-i.i + 1) =
     (elim c.if-stands.branch [
       | then-stands y ↦ rw (y.curve-is, y.self-is)
-          (glide-stands _ _ _ _ (omega arith) p.3 less rows c.min-end.ensures refl refl (stands-glides _ _ _ _ _ c.stands.ensures y.if-stands.true y.write_standing.ensures))
+          (glide-stands _ _ _ _ (omega arith) p.2 less rows c.min-end.ensures refl refl (stands-glides _ _ _ _ _ c.stands.ensures y.if-stands.true y.write_standing.ensures))
       | else-stands y ↦ rw (y.curve-is, y.self-is)
-          (glide-moves _ _ _ _ (omega arith) p.3 less rows c.min-end.ensures refl refl _ y.glide_voice.ensures)
+          (glide-moves _ _ _ _ (omega arith) p.2 less rows c.min-end.ensures refl refl _ y.glide_voice.ensures)
     ]) in
-    (omega arith, p.1, p.2, next)
+    (p.0, p.1, next)
 
 pub returns : goal.returns
 returns c =
     let t = c.args.self in
     let p = c.loop-i.invariant in
-    glided-table _ _ _ t _ (voices-long t c.well_formed.0) c.min-n.ensures c.min-count.ensures p.3 (omega arith)
+    glided-table _ _ _ t _ (voices-long t c.well_formed.0) c.min-n.ensures c.min-count.ensures p.2 (omega arith)

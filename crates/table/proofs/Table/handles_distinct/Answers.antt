@@ -2,8 +2,8 @@ use borrow.Author.Rules.{rules}
 use lib.Dec.{leb}
 use Rattle.std.proofs.lemmas.Iterator.{YieldsList-from_slice}
 use Rattle.std.proofs.lemmas.Iterator.Search.{all_from_yields_List}
-use Rattle.lists.specs.Perms.{times}
-use Rattle.model.specs.Voices.{handles}
+use Rattle.lists.specs.Count.{count}
+use Rattle.model.specs.Voices.{has_handle}
 use Rattle.table.specs.View.{voices_in}
 use Rattle.table.proofs.Handles.{all-lone}
 use Rattle.table.proofs.Table.handles_distinct.Goals as goal
@@ -12,4 +12,4 @@ pub returns-else-handles_rise : goal.returns-else-handles_rise
 returns-else-handles_rise c =
     let t = c.args.self.now in
     all-lone c.live.result.now t c.live.ensures _
-    (all_from_yields_List (λ v. leb (times v.handle (handles (voices_in t))) 1) _ _ c.all.result c.all.ensures.ran (YieldsList-from_slice _ c.iter.ensures.rest) (λ x b q k. search rules))
+    (all_from_yields_List (λ v. leb (count (has_handle v.handle) (voices_in t)) 1) _ _ c.all.result c.all.ensures.ran (YieldsList-from_slice _ c.iter.ensures.rest) (λ x b q k. search rules))

@@ -1,10 +1,6 @@
-use mathlib.Core.Path.{◌≡◌}
-use Prim.Native.Nat.{◌≤◌, ◌<◌}
 use borrow.Author.Rules.{rules}
-use Rattle.lists.specs.Count.{count}
 use Rattle.voice.specs.View.{shown}
 use Rattle.model.specs.Voices.{sounding}
-use Rattle.table.specs.View.{voices_in}
 use Rattle.table.proofs.Adding.{kill-none, kill-nobody, kill-one}
 use Rattle.table.proofs.Table.kill_quietest.Goals as goal
 

@@ -1,32 +1,17 @@
 use mathlib.Core.Path.{◌≡◌, refl}
 use Prim.Native.Nat.{◌+◌, ◌≤◌, ◌<◌, min}
-use native.Mathlib.Nat.{mul-le-mul}
 use native.Mathlib.Omega.{arith}
 use borrow.Author.Rules.{rules}
 use lib.ListN.{length, get_or}
 use Rattle.lists.specs.Pass.{pass-read}
 use Rattle.voice.proofs.Sizes.{past_end}
 use Rattle.table.proofs.Sizes.{voices-long}
-use Rattle.table.proofs.Retaining.{report-long}
-use Rattle.table.proofs.Mixing.{UnderWay, mixed_to, mix-start, mix-here, mix-up, mix-not, mixed-more, mixed-end}
+use Rattle.table.proofs.Mixing.{UnderWay, mixed_to, mix-start, mix-here, mix-up, mix-not, mixed-more}
 use Rattle.table.proofs.Table.mix.Goals as goal
 use Rattle.table.proofs.Table.mix.Goals.{then-not-goes_on, else-not-goes_on+then-gone-gt0, else-not-goes_on+else-gone-gt0}
 
 pub loop-i-init : goal.loop-i-init
-loop-i-init c = (search rules, search rules, refl, refl, mix-start _ _ _ _ _)
-
-pub overflow_mul-n : goal.overflow_mul-n
-overflow_mul-n c =
-    let short : c.min-n.result ≤ 1024 = omega arith in
-    omega (arith, mul-le-mul short c.copies_shown.ensures.0)
-
-pub overflow_add-at : goal.overflow_add-at
-overflow_add-at c =
-    let short : c.min-n.result ≤ 1024 = omega arith in
-    omega (arith, mul-le-mul short c.copies_shown.ensures.0, c.loop-i.invariant.4.within, c.well_formed.1.1.1.0.0)
-
-pub overflow_add-gone : goal.overflow_add-gone
-overflow_add-gone c = omega (arith, c.loop-i.invariant.0, c.loop-i-test.true, c.min-count.ensures)
+loop-i-init c = (search rules, refl, refl, mix-start _ _ _ _ _)
 
 pub loop-i-preserved : goal.loop-i-preserved
 loop-i-preserved c =
@@ -34,7 +19,7 @@ loop-i-preserved c =
     let long = voices-long x.self c.well_formed.0 in
     let short : c.min-n.result ≤ 1024 = omega arith in
     let i = c.loop-i.invariant in
-    let u = i.4 in
+    let u = i.3 in
     let v = get_or c.loop-i.self.voices c.loop-i.i past_end in
     let m = c.min-at.ensures in
     let w = c.with_env.ensures in
@@ -56,18 +41,7 @@ loop-i-preserved c =
           rw (y.ended-is, y.self-is, y.gone-is) (mix-here _ _ v short u e w r m c.goes_on.ensures y.if-not-goes_on.false y.if-gone-gt0.false room)
     ]) in (
       let z : next.stay + c.if-not-goes_on.gone ≡ c.loop-i.i + 1 = next.table.places in omega arith,
-      omega arith,
+      omega (arith, c.add_voice-env.auto, i.1),
       omega (arith, c.add_voice-env.auto, i.2),
-      omega (arith, c.add_voice-env.auto, i.3),
       next,
     )
-
-pub shape_of-ended : goal.shape_of-ended
-shape_of-ended c = report-long c.loop-i.invariant.4.table
-
-pub returns : goal.returns
-returns c =
-    let x = c.args in
-    let long = voices-long x.self c.well_formed.0 in
-    let i = c.loop-i.invariant in
-    mixed-end x.self (long) _ x.trem _ _ _ x.frames _ c.min-n.ensures c.min-count.ensures (omega (arith, c.loop-i-test.false, i.1)) i.4

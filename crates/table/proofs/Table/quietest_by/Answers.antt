@@ -2,20 +2,9 @@ use mathlib.Core.Path.{◌≡◌, sym, ◌∙◌}
 use mathlib.Core.Bool.{true≢false}
 use native.Mathlib.Omega.{arith}
 use lib.ListN.{length}
-use Rattle.table.proofs.Searches.{best-start, best-fails, best-here, best-stays, best-end}
+use Rattle.table.proofs.Searches.{best-fails, best-here, best-stays, best-end}
 use Rattle.table.proofs.Table.quietest_by.Goals as goal
 use Rattle.table.proofs.Table.quietest_by.Goals.{then-test+then-below, in-Some, in-None, then-test+else-below, else-test}
-
-pub loop-i-init : goal.loop-i-init
-loop-i-init g c = record { within = tt; best = λ t d. best-start t c.live-voices.result.now }
-
-pub offset_bounds-voices-k : goal.offset_bounds-voices-k
-offset_bounds-voices-k g c =
-    let k = rw c.in-Some.is at c.loop-i.invariant.within in
-    omega (arith, k, c.live-voices.type_inv.1)
-
-pub bounds-voices-k : goal.bounds-voices-k
-bounds-voices-k g c = rw c.in-Some.is at c.loop-i.invariant.within
 
 pub loop-i-preserved : goal.loop-i-preserved
 loop-i-preserved g c =
