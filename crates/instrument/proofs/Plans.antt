@@ -37,7 +37,7 @@ use Rattle.table.proofs.Gliding.{glides-whole}
 use Rattle.voice.specs.Changes.{on_seen}
 use Rattle.instrument.specs.View.{view, roomy, counted}
 use Rattle.instrument.specs.Calls.{Called, refusal_of, lent_of, answered_as, refused_as, moved_as, blocked_as}
-use Rattle.instrument.specs.Plans.{PlannedAs, plan_fits, step_of, phase_on, wobble_of, StandsFor}
+use Rattle.instrument.specs.Plans.{PlannedAs, plan_fits, factor_of, step_of, phase_on, wobble_of, StandsFor}
 use Rattle.instrument.specs.declared.Instrument.{Instrument}
 use Rattle.instrument.specs.declared.Reply.TheVariants.{Planned}
 use Rattle.instrument.proofs.Formed.{table-copies}
@@ -121,12 +121,12 @@ wobble-is s v f = refl
 
 module _ (s : Instrument) (n : ℕ) (vibrato filter sine : Float) where
   pub applies : (r : Instrument) (v f t d a b c : Float) (u : Table)
-      → v ≡ vibrato_factor s.design.modulation vibrato → f ≡ filter_factor s.design.modulation filter → t ≡ tremolo_gain s.design.modulation sine
+      → v ≡ factor_of s.design.modulation.vibrato_cents vibrato → f ≡ factor_of s.design.modulation.filter_octaves filter → t ≡ tremolo_gain s.design.modulation sine
       → d ≡ step_of n s.design.sample_rate → a ≡ phase_on s.vib_phase s.design.modulation.vibrato_rate d
       → b ≡ phase_on s.flt_phase s.design.modulation.filter_rate d → c ≡ phase_on s.trem_phase s.design.modulation.tremolo_rate d
       → Holds (map (on_seen (with_copies (wobble_of s.design.modulation (mul binary32 s.bend v) (mul binary32 s.brightness f)))) (seen_in s.table)) u → r ≡ moved_as s u a b c t
       → StandsFor s (applied (view s) n vibrato filter sine) r
-  unfolding applied phase_after view
+  unfolding applied vibrato_factor filter_factor phase_after view
   applies r v f t d a b c u ev ef et ed ea eb ec e q =
       let g : with_copies (wobble_of s.design.modulation (mul binary32 s.bend v) (mul binary32 s.brightness f)) ≡ with_copies (wobbled (view s)
       (vibrato_factor s.design.modulation vibrato) (filter_factor s.design.modulation filter)) = rw (ev, ef) (wobble-is s _ _) in

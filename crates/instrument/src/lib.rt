@@ -3,7 +3,6 @@
 #![tactic(auto)]
 
 ghost use Rattle.std.specs.Prelude.{◌≡◌, true, ◌<◌, ◌≤◌, ◌*◌, ◌==◌, Ok};
-ghost use Rattle.stream.specs.Pitch.{bent as bent_copy, cut_to as cut_copy};
 ghost use Rattle.design.specs.Accepted.{is_accepted, copies_of};
 ghost use Rattle.model.specs.Types.{Control, Call};
 ghost use Rattle.model.specs.Formed.{frames_fit, block_fits};
@@ -12,9 +11,6 @@ ghost use Rattle.model.specs.Start.{empty_state};
 ghost use Rattle.model.specs.Queries.{is_active, active_voices};
 ghost use Rattle.design.specs.declared.PlayMode.TheVariants.{Mono};
 ghost use Rattle.model.specs.Notes.{mono_off, velocity_of, new_note, mono_on, new_handle_in};
-ghost use Rattle.model.specs.Voices.{with_copies};
-ghost use Rattle.voice.specs.View.{seen};
-ghost use Rattle.voice.specs.Changes.{on_seen};
 ghost use Rattle.instrument.specs.View.{view, counted, formed as formed_state};
 ghost use Rattle.instrument.specs.Calls.{StartAs, last_handle, barred_by, Gives, OnAs, CallAs};
 ghost use Rattle.instrument.specs.Levels.{StartLevels};
@@ -156,19 +152,6 @@ fn velocity_of(velocity: f32) -> f32
     } else {
         float32::clamp(velocity, 0.0, 1.0)
     }
-}
-
-// Every copy of a voice bent, and given a cutoff.
-fn bent(v: Voice, factor: f32) -> Voice
-    ensures { seen result ≡ on_seen (with_copies (bent_copy factor)) (seen v) }
-{
-    v.with_copies(|copy| copy.set_bend(factor))
-}
-
-fn cut_to(v: Voice, cutoff: f32) -> Voice
-    ensures { seen result ≡ on_seen (with_copies (cut_copy cutoff)) (seen v) }
-{
-    v.with_copies(|copy| copy.set_cutoff(cutoff))
 }
 
 impl Instrument {
@@ -382,7 +365,9 @@ impl Instrument {
             return Outcome::refused(self, refusal);
         }
         self.bend = factor;
-        self.table = self.table.change_all(|v| bent(v, factor));
+        self.table = self
+            .table
+            .change_all(|v| v.with_copies(|copy| copy.set_bend(factor)));
         Outcome::answered(self, Reply::Done)
     }
 
@@ -395,7 +380,9 @@ impl Instrument {
         }
         let least = float32::max(scale, 0.01);
         self.brightness = least;
-        self.table = self.table.change_all(|v| cut_to(v, least));
+        self.table = self
+            .table
+            .change_all(|v| v.with_copies(|copy| copy.set_cutoff(least)));
         Outcome::answered(self, Reply::Done)
     }
 
