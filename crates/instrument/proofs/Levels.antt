@@ -8,8 +8,8 @@ use Rattle.model.proofs.Runs.{levels-within}
 use Rattle.instrument.specs.Levels.{StartLevels}
 use Rattle.instrument.proofs.Parts.{accepted-yes}
 
-pub start-levels : (d : InstrumentDesign) → TimesFit d → StartLevels d
+pub start_levels : (d : InstrumentDesign) → TimesFit d → StartLevels d
 unfolding StartLevels LevelsWithin start_of
-start-levels d t r s e cs k =
+start_levels d t r s e cs k =
     let a = sym (accepted-yes d (sym s.reply ∙ e)) in
     rw (s.state ∙ cond-true _ _ _ a) (levels-within d a t cs k)

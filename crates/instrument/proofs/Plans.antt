@@ -3,10 +3,10 @@ use Rattle.std.specs.Prelude.{Ok, Err}
 use mathlib.Core.Path.{◌≡◌, refl, ap, sym, ◌∙◌}
 use mathlib.Core.Bool.{Bool, true, false, not, cond}
 use mathlib.Core.List.{List, map}
-use Prim.Native.Nat.{ℕ, ◌*◌, ◌≤◌, ◌^◌}
+use Prim.Native.Nat.{ℕ, ◌*◌, ◌≤◌}
 use native.Mathlib.Omega.{arith}
 use borrow.Author.Tests.{leb-true, eq-eqb, ne_eqb, eqb-true, eqb-false, not-false}
-use lib.Dec.{T, leb, eqb, le→leb}
+use lib.Dec.{T, leb, eqb}
 use lib.Ieee.{Float, binary32, mul, in_float}
 use lib.IntN.{pos}
 use lib.ListN.{length}
@@ -18,6 +18,7 @@ use Rattle.stream.specs.Pitch.{glided}
 use Rattle.design.specs.declared.InstrumentDesign.{InstrumentDesign}
 use Rattle.design.specs.Accepted.{is_accepted, modulated, copies_of}
 use Rattle.envelope.specs.Start.{rate_fits}
+use Rattle.envelope.proofs.Starts.{rate-float}
 use Rattle.design.proofs.Limits.{rate-fits}
 use Rattle.model.specs.Types as M
 use Rattle.model.specs.Changes.{moved, blocked}
@@ -36,7 +37,7 @@ use Rattle.table.proofs.Gliding.{glides-whole}
 use Rattle.voice.specs.Changes.{on_seen}
 use Rattle.instrument.specs.View.{view, roomy, counted}
 use Rattle.instrument.specs.Calls.{Called, refusal_of, lent_of, answered_as, refused_as, moved_as, blocked_as}
-use Rattle.instrument.specs.Plans.{PlannedAs, plan_fits, step_of, phase_on, wobble_of, StandsFor}
+use Rattle.instrument.specs.Plans.{PlannedAs, plan_fits, factor_of, step_of, phase_on, wobble_of, StandsFor}
 use Rattle.instrument.specs.declared.Instrument.{Instrument}
 use Rattle.instrument.specs.declared.Reply.TheVariants.{Planned}
 use Rattle.instrument.proofs.Formed.{table-copies}
@@ -52,9 +53,8 @@ frames-most d n e = by (modulated d.modulation) (leb-true n _ (both (leb 1 n) _ 
     by true h = omega arith
     by false h = h
 
-pub frames-float : (n : ℕ) → n ≤ 1024 → T (in_float binary32 (pos n))
-unfolding in_float
-frames-float n h = le→leb n (2 ^ 24) (omega arith)
+pub rate_float : (rate : ℕ) → rate_fits rate ≡ true → T (in_float binary32 (pos rate))
+rate_float rate e = rate-float rate e
 
 -- ---- the refusals
 
@@ -121,12 +121,12 @@ wobble-is s v f = refl
 
 module _ (s : Instrument) (n : ℕ) (vibrato filter sine : Float) where
   pub applies : (r : Instrument) (v f t d a b c : Float) (u : Table)
-      → v ≡ vibrato_factor s.design.modulation vibrato → f ≡ filter_factor s.design.modulation filter → t ≡ tremolo_gain s.design.modulation sine
+      → v ≡ factor_of s.design.modulation.vibrato_cents vibrato → f ≡ factor_of s.design.modulation.filter_octaves filter → t ≡ tremolo_gain s.design.modulation sine
       → d ≡ step_of n s.design.sample_rate → a ≡ phase_on s.vib_phase s.design.modulation.vibrato_rate d
       → b ≡ phase_on s.flt_phase s.design.modulation.filter_rate d → c ≡ phase_on s.trem_phase s.design.modulation.tremolo_rate d
       → Holds (map (on_seen (with_copies (wobble_of s.design.modulation (mul binary32 s.bend v) (mul binary32 s.brightness f)))) (seen_in s.table)) u → r ≡ moved_as s u a b c t
       → StandsFor s (applied (view s) n vibrato filter sine) r
-  unfolding applied phase_after view
+  unfolding applied vibrato_factor filter_factor phase_after view
   applies r v f t d a b c u ev ef et ed ea eb ec e q =
       let g : with_copies (wobble_of s.design.modulation (mul binary32 s.bend v) (mul binary32 s.brightness f)) ≡ with_copies (wobbled (view s)
       (vibrato_factor s.design.modulation vibrato) (filter_factor s.design.modulation filter)) = rw (ev, ef) (wobble-is s _ _) in

@@ -1,7 +1,7 @@
 -- The ways out of the queries.
 use Rattle.std.specs.Prelude.{Option, None, Some, Ok, Err, MatchOption}
 use Rattle.std.specs.Option.{is_some}
-use mathlib.Core.Path.{◌≡◌, refl, ap, ◌∙◌}
+use mathlib.Core.Path.{◌≡◌, refl, ap, sym, ◌∙◌}
 use mathlib.Core.Bool.{Bool, true, false, cond}
 use Prim.Native.Nat.{ℕ, ◌≤◌, ◌<◌}
 use native.Mathlib.Omega.{arith}
@@ -20,50 +20,30 @@ use Rattle.model.specs.Voices.{is_place, place_of, has_handle, handle_at}
 use Rattle.table.specs.View.{voices_in, place_in, handle_in}
 use Rattle.table.proofs.Searches.{none-inside, some-inside}
 use Rattle.instrument.specs.View.{view, counted, formed}
-use Rattle.instrument.specs.Asked.{asked_of, VoiceAs}
+use Rattle.instrument.specs.Asked.{VoiceAs}
 use Rattle.instrument.specs.declared.Instrument.{Instrument}
 
-some-in : (b : Bool) (k : ℕ) → is_some (cond b (Some k) None) ≡ b
-some-in true k = refl
-some-in false k = refl
+-- whether a handle is active, as a search for it answers
+pub active_in : (s : Instrument) (h : ℕ) → is_active (view s) h ≡ cond (well_formed (view s))
+    (Q.Answer.active (is_some (place_in (find_at (has_handle h) (voices_in s.table)) (voices_in s.table)))) (Q.Answer.refused 1)
+unfolding is_active is_place place_of view
+active_in s h =
+    ap (λ (b : Bool). cond (well_formed (view s)) (Q.Answer.active b) (Q.Answer.refused 1)) (sym (some-in (ltb (find_at (has_handle h) (voices_in s.table)) (length (voices_in s.table))) _))
+  where
+    some-in : (b : Bool) (k : ℕ) → is_some (cond b (Some k) None) ≡ b
+    some-in true k = refl
+    some-in false k = refl
 
 -- a state that is not well formed, on its counts or on what it stands for
-module _ (s : Instrument) (e : formed s ≡ false) where
-  module _ (a : Q.Answer) (f : well_formed (view s) ≡ false → Q.Answer.refused 1 ≡ a) where
-    pub asked-refused : Q.Answer.refused 1 ≡ asked_of s a
-    unfolding asked_of formed
-    asked-refused = by (counted s) refl
-      where
-        by : (b : Bool) → counted s ≡ b → Q.Answer.refused 1 ≡ asked_of s a
-        by true p = let w : well_formed (view s) ≡ false = rw p at e in rw p (f w)
-        by false p = rw p
-
-  pub active-refused : (h : ℕ) → Q.Answer.refused 1 ≡ asked_of s (is_active (view s) h)
-  unfolding is_active
-  active-refused h = asked-refused _ (λ w. rw w)
-
-  pub voices-refused : Q.Answer.refused 1 ≡ asked_of s (active_voices (view s))
-  unfolding active_voices
-  voices-refused = asked-refused _ (λ w. rw w)
-
-  pub voice-refused : (n : ℕ) → VoiceAs s n (Err Malformed)
-  unfolding VoiceOf formed
-  voice-refused n = record { in_room = λ p. ((rw p at e), refl); beyond = λ _. refl }
+pub voice-refused : (s : Instrument) → formed s ≡ false → (n : ℕ) → VoiceAs s n (Err Malformed)
+unfolding VoiceOf formed
+voice-refused s e n = record { in_room = λ p. ((rw p at e), refl); beyond = λ _. refl }
 
 -- a state that is well formed
 module _ (s : Instrument) (e : formed s ≡ true) where
   fine : (counted s ≡ true) × (well_formed (view s) ≡ true)
   unfolding formed
   fine = both (counted s) (well_formed (view s)) e
-
-  pub active-found : (h : ℕ) (o : Option ℕ) (b : Bool) → o ≡ place_in (find_at (has_handle h) (voices_in s.table)) (voices_in s.table) → b ≡ is_some o
-      → Q.Answer.active b ≡ asked_of s (is_active (view s) h)
-  unfolding asked_of is_active is_place place_of view
-  active-found h o b q e = rw (fine.0, fine.1, e, q) (ap Q.Answer.active (some-in (ltb (find_at (has_handle h) (voices_in s.table)) (length (voices_in s.table))) _))
-
-  pub voices-found : (n : ℕ) → n ≡ length (voices_in s.table) → Q.Answer.voices n ≡ asked_of s (active_voices (view s))
-  unfolding asked_of active_voices view
-  voices-found n h = rw (fine.0, fine.1, h)
 
   module _ (n : ℕ) where
     abbrev at : ℕ

@@ -3,7 +3,6 @@
 #![tactic(auto)]
 
 ghost use Rattle.std.specs.Prelude.{◌≡◌, true, ◌<◌, ◌≤◌, ◌*◌, ◌==◌, Ok};
-ghost use Rattle.stream.specs.Pitch.{bent as bent_copy, cut_to as cut_copy};
 ghost use Rattle.design.specs.Accepted.{is_accepted, copies_of};
 ghost use Rattle.model.specs.Types.{Control, Call};
 ghost use Rattle.model.specs.Formed.{frames_fit, block_fits};
@@ -12,9 +11,6 @@ ghost use Rattle.model.specs.Start.{empty_state};
 ghost use Rattle.model.specs.Queries.{is_active, active_voices};
 ghost use Rattle.design.specs.declared.PlayMode.TheVariants.{Mono};
 ghost use Rattle.model.specs.Notes.{mono_off, velocity_of, new_note, mono_on, new_handle_in};
-ghost use Rattle.model.specs.Voices.{with_copies};
-ghost use Rattle.voice.specs.View.{seen};
-ghost use Rattle.voice.specs.Changes.{on_seen};
 ghost use Rattle.instrument.specs.View.{view, counted, formed as formed_state};
 ghost use Rattle.instrument.specs.Calls.{StartAs, last_handle, barred_by, Gives, OnAs, CallAs};
 ghost use Rattle.instrument.specs.Levels.{StartLevels};
@@ -139,6 +135,7 @@ fn times_fit(design: InstrumentDesign)
 {}
 
 // The theorem that no list of calls from a start reaches a NaN level, of every design that the code can hold.
+#[tactic(auto, using(crate::proofs::Levels::start_levels))]
 pub fn levels_within(design: InstrumentDesign)
     ensures { StartLevels design }
 {
@@ -155,19 +152,6 @@ fn velocity_of(velocity: f32) -> f32
     } else {
         float32::clamp(velocity, 0.0, 1.0)
     }
-}
-
-// Every copy of a voice bent, and given a cutoff.
-fn bent(v: Voice, factor: f32) -> Voice
-    ensures { seen result ≡ on_seen (with_copies (bent_copy factor)) (seen v) }
-{
-    v.with_copies(|copy| copy.set_bend(factor))
-}
-
-fn cut_to(v: Voice, cutoff: f32) -> Voice
-    ensures { seen result ≡ on_seen (with_copies (cut_copy cutoff)) (seen v) }
-{
-    v.with_copies(|copy| copy.set_cutoff(cutoff))
 }
 
 impl Instrument {
@@ -381,7 +365,9 @@ impl Instrument {
             return Outcome::refused(self, refusal);
         }
         self.bend = factor;
-        self.table = self.table.change_all(|v| bent(v, factor));
+        self.table = self
+            .table
+            .change_all(|v| v.with_copies(|copy| copy.set_bend(factor)));
         Outcome::answered(self, Reply::Done)
     }
 
@@ -394,7 +380,9 @@ impl Instrument {
         }
         let least = float32::max(scale, 0.01);
         self.brightness = least;
-        self.table = self.table.change_all(|v| cut_to(v, least));
+        self.table = self
+            .table
+            .change_all(|v| v.with_copies(|copy| copy.set_cutoff(least)));
         Outcome::answered(self, Reply::Done)
     }
 
@@ -426,6 +414,7 @@ impl Instrument {
     }
 
     // Whether a handle is in the table.
+    #[tactic(auto, using(crate::proofs::Queries::active_in), unfolding(crate::specs::Asked::asked_of, crate::specs::View::formed, voice::specs::View::shown))]
     pub fn is_active(&self, handle: u64) -> Result<bool, Refusal>
         ensures { active_of result ≡ asked_of self.now (is_active (view self.now) handle) }
     {
@@ -437,6 +426,7 @@ impl Instrument {
     }
 
     // How many voices are in the table.
+    #[tactic(auto, unfolding(crate::specs::Asked::asked_of, crate::specs::View::formed, crate::specs::View::view, model::specs::Queries::active_voices))]
     pub fn active_voices(&self) -> Result<usize, Refusal>
         ensures { voices_of result ≡ asked_of self.now (active_voices (view self.now)) }
     {

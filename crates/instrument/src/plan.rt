@@ -2,32 +2,20 @@
 
 ghost use Rattle.std.specs.Prelude.{◌≡◌, true, ◌≤◌};
 ghost use Rattle.envelope.specs.Start.{rate_fits};
-ghost use Rattle.model.specs.Plan.{vibrato_factor, filter_factor, tremolo_gain, applied};
+ghost use Rattle.model.specs.Plan.{tremolo_gain, applied};
 ghost use Rattle.instrument.specs.View.{view};
-ghost use Rattle.model.specs.Voices.{with_copies};
-ghost use Rattle.voice.specs.View.{seen};
-ghost use Rattle.voice.specs.Changes.{on_seen};
-ghost use Rattle.instrument.specs.Plans.{PlannedAs, plan_fits, step_of, phase_on, wobble_of, StandsFor};
+ghost use Rattle.instrument.specs.Plans.{PlannedAs, plan_fits, factor_of, step_of, phase_on, wobble_of, StandsFor};
 
 use crate::{Instrument, Reply};
 use design::Modulation;
 use outcome::{Outcome, Refusal};
 use stream::UnisonCopy;
-use voice::Voice;
 
-// The host's factor, where the vibrato has a depth.
-#[tactic(auto, unfolding(model::specs::Plan::vibrato_factor))]
-fn vibrato_factor(m: Modulation, vibrato: f32) -> f32
-    ensures { result ≡ vibrato_factor m vibrato }
+// The host's factor, where its LFO has a depth.
+fn factor(depth: f32, host: f32) -> f32
+    ensures { result ≡ factor_of depth host }
 {
-    if m.vibrato_cents > 0.0 { vibrato } else { 1.0 }
-}
-
-#[tactic(auto, unfolding(model::specs::Plan::filter_factor))]
-fn filter_factor(m: Modulation, filter: f32) -> f32
-    ensures { result ≡ filter_factor m filter }
-{
-    if m.filter_octaves > 0.0 { filter } else { 1.0 }
+    if depth > 0.0 { host } else { 1.0 }
 }
 
 // Only the depth counts here, not the rate.
@@ -36,12 +24,14 @@ fn tremolo_gain(m: Modulation, sine: f32) -> f32
     ensures { result ≡ tremolo_gain m sine }
 {
     if m.tremolo_depth > 0.0 {
-        return 1.0 - m.tremolo_depth * 0.5 * (1.0 - sine);
+        1.0 - m.tremolo_depth * 0.5 * (1.0 - sine)
+    } else {
+        1.0
     }
-    1.0
 }
 
 // Seconds of a block. Both numbers are floats exactly.
+#[tactic(auto, using(crate::proofs::Plans::rate_float))]
 fn step_of(frames: usize, rate: u32) -> f32
     requires { (frames ≤ 1024) × (rate_fits rate ≡ true) }
     ensures { result ≡ step_of frames rate }
@@ -62,15 +52,10 @@ fn wobble(copy: UnisonCopy, m: Modulation, bend: f32, cutoff: f32) -> UnisonCopy
 {
     let bent = copy.set_bend(bend);
     if m.filter_octaves > 0.0 {
-        return bent.set_cutoff(cutoff);
+        bent.set_cutoff(cutoff)
+    } else {
+        bent
     }
-    bent
-}
-
-fn wobbled(v: Voice, m: Modulation, bend: f32, cutoff: f32) -> Voice
-    ensures { seen result ≡ on_seen (with_copies (wobble_of m bend cutoff)) (seen v) }
-{
-    v.with_copies(|copy| wobble(copy, m, bend, cutoff))
 }
 
 impl Instrument {
@@ -96,9 +81,11 @@ impl Instrument {
         ensures { StandsFor self (applied (view self) frames vibrato filter sine) result }
     {
         let m = self.design.modulation;
-        let bend = self.bend * vibrato_factor(m, vibrato);
-        let cutoff = self.brightness * filter_factor(m, filter);
-        self.table = self.table.change_all(|v| wobbled(v, m, bend, cutoff));
+        let bend = self.bend * factor(m.vibrato_cents, vibrato);
+        let cutoff = self.brightness * factor(m.filter_octaves, filter);
+        self.table = self
+            .table
+            .change_all(|v| v.with_copies(|copy| wobble(copy, m, bend, cutoff)));
         let step = step_of(frames, self.design.sample_rate);
         self.vib_phase = phase_on(self.vib_phase, m.vibrato_rate, step);
         self.flt_phase = phase_on(self.flt_phase, m.filter_rate, step);

@@ -10,8 +10,8 @@ use Rattle.instrument.proofs.Instrument.apply_modulation.Goals as goal
 pub returns : goal.returns
 unfolding moved_as
 returns c =
-    applies c.args.self c.args.frames c.args.vibrato c.args.filter c.args.sine _ _ _ _ _ _ _ _ _ c.vibrato_factor.ensures c.filter_factor.ensures
+    applies c.args.self c.args.frames c.args.vibrato c.args.filter c.args.sine _ _ _ _ _ _ _ _ _ c.factor.ensures c.factor-2.ensures
     c.tremolo_gain.ensures
     c.step_of-step.ensures c.phase_on.ensures c.phase_on-2.ensures c.phase_on-3.ensures (c.change_all-self.ensures (with_copies
-    (wobble_of c.args.self.design.modulation (mul binary32 c.args.self.bend c.vibrato_factor.result)
-    (mul binary32 c.args.self.brightness c.filter_factor.result))) (λ v w p. search rules)) refl
+    (wobble_of c.args.self.design.modulation (mul binary32 c.args.self.bend c.factor.result)
+    (mul binary32 c.args.self.brightness c.factor-2.result))) (λ v w p. search rules)) refl
