@@ -33,7 +33,6 @@ fn voice(sum: u64, v: &Voice) -> u64 {
 
 // The voices of a state, each with its first copy.
 pub fn table(s: &Instrument) -> u64 {
-    let t = &s.table;
-    let n = t.count.min(64);
-    t.voices[..n].iter().fold(n as u64, voice)
+    let voices = s.table.live();
+    voices.iter().fold(voices.len() as u64, voice)
 }

@@ -25,7 +25,7 @@ fn copy(page: &mut Page, c: &UnisonCopy) {
 
 fn copies(page: &mut Page, v: &Voice) {
     page.put(b" (D", &[v.handle]);
-    for c in &v.copies[..v.copy_count.min(8)] {
+    for c in v.live_copies() {
         copy(page, c);
     }
     page.put(b")", &[]);
@@ -42,15 +42,10 @@ fn row(page: &mut Page, v: &Voice) {
     page.put(b" (D D D D W)", &numbers);
 }
 
-fn shown(s: &Instrument) -> &[Voice] {
-    let table = &s.table;
-    &table.voices[..table.count.min(64)]
-}
-
 // The table, a row a voice.
 pub fn voices(page: &mut Page, s: &Instrument) {
     page.put(b"(voices", &[]);
-    for v in shown(s) {
+    for v in s.table.live() {
         row(page, v);
     }
     page.put(b")\n", &[]);
@@ -59,16 +54,10 @@ pub fn voices(page: &mut Page, s: &Instrument) {
 // Every copy of every voice.
 pub fn every_copy(page: &mut Page, s: &Instrument) {
     page.put(b"(copies", &[]);
-    for v in shown(s) {
+    for v in s.table.live() {
         copies(page, v);
     }
     page.put(b")\n", &[]);
-}
-
-fn held(page: &mut Page, s: &Instrument) {
-    let held = &s.held;
-    let notes = &held.notes[..held.count.min(256)];
-    page.put_list(b'D', notes, |note| u64::from(note.0));
 }
 
 // All that stands beside the table.
@@ -85,6 +74,6 @@ pub fn state(page: &mut Page, s: &Instrument) {
         s.frames as u64,
     ];
     page.put(b"(state D D W W W W W W D", &numbers);
-    held(page, s);
+    page.put_list(b'D', s.held.as_slice(), |note| u64::from(note.0));
     page.put(b")\n", &[]);
 }

@@ -48,7 +48,7 @@ fn quieter(v: Voice, w: Voice) -> bool
 
 impl Table {
     // The voices up to the count, and never past the array.
-    fn live(&self) -> &[Voice]
+    pub fn live(&self) -> &[Voice]
         ensures { map seen result.now ≡ seen_in self.now }
     {
         &self.voices[..self.count.min(64)]

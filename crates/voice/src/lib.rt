@@ -170,6 +170,14 @@ impl Voice {
     {
         self.copy_count.min(8)
     }
+
+    // The copies that count.
+    #[tactic(auto, using(crate::proofs::Sizes::copies_seen))]
+    pub fn live_copies(&self) -> &[UnisonCopy]
+        ensures { result.now ≡ (shown self.now).copies }
+    {
+        &self.copies[..self.copies_shown()]
+    }
 }
 
 // How many copies a new voice has; an accepted design asks for no more than 8.
