@@ -19,12 +19,12 @@ use Rattle.instrument.specs.declared.Report.{Report}
 use Rattle.outcome.specs.declared.Outcome as gave
 use Rattle.outcome.specs.declared.Refusal.TheVariants.{OutsideLimits}
 use Rattle.instrument.specs.View.{counted}
-use Rattle.instrument.specs.Calls.{Called, reply_of, refusal_of, reply_to, lent_of, StepAs}
+use Rattle.instrument.specs.Calls.{refusal_of, reply_to, lent_of, StepAs}
 use Rattle.instrument.specs.Mixes.{mix_reply_of, MixAs}
 use Rattle.wire.specs.declared.HostState.{HostState}
 use Rattle.wire.specs.Reads.{numbered, model_of, ReadFrom}
 use Rattle.host.specs.Said.{said_of, report_of, refusing}
-use Rattle.host.specs.Hosted.{host_refusal, host_reply, host_lent, HostedAs, HostCallAs, Hosts, HostedBy, unread}
+use Rattle.host.specs.Hosted.{host_refusal, host_reply, host_lent, HostedAs, HostCallAs, Hosts, unread}
 use Rattle.host.specs.declared.HostReply.{HostReply}
 use Rattle.host.specs.declared.HostOutcome.{HostOutcome}
 
@@ -120,18 +120,6 @@ module _ (h : HostState) (s : Instrument) (sure : numbered h ≡ true) (from : R
   pub hosted-report : (samples old : List Float) (o : gave.Outcome Instrument Report) (new : List Float) → MixAs s samples old new o
       → report_of (mix_reply_of o.reply) ≡ report_of (host_reply h (Call.mix samples old))
   hosted-report samples old o new m = ap report_of (m.call.reply ∙ same-reply (Call.mix samples old))
-
--- ---- a call or a query between reading and writing, on whatever numbers
-
-pub hosted_call : (post : Instrument → Called → Type 0) (h : HostState) (c : Call) (r : HostOutcome) → HostedBy post h r
-    → ((s : Instrument) (o : Called) → post s o → StepAs s c (reply_of o.reply) o.state) → HostCallAs h c r
-hosted_call post h c r b f = by (numbered h) refl
-  where
-    by : (z : Bool) → numbered h ≡ z → HostCallAs h c r
-    by true sure =
-        let k = b.read sure in
-        hosted h k.state sure k.from c (reply_of k.gave.reply) k.gave.state r.reply r.state (f k.state k.gave k.gives) k.hosts
-    by false fails = unread-outcome h fails c r (b.unread fails)
 
 -- ---- the start
 

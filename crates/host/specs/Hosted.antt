@@ -11,7 +11,7 @@ use Rattle.model.specs.Start.{fresh, zero_state}
 use Rattle.model.specs.Queries.{Answer, VoiceOf}
 use Rattle.instrument.specs.declared.Instrument.{Instrument}
 use Rattle.instrument.specs.Calls as code
-use Rattle.instrument.specs.Calls.{reply_of}
+use Rattle.instrument.specs.Calls.{reply_of, StepAs}
 use Rattle.wire.specs.declared.HostDesign.{HostDesign}
 use Rattle.wire.specs.declared.HostState.{HostState}
 use Rattle.wire.specs.Reads.{mode_numbered, design_of, numbered, model_of, ReadFrom, WrittenFrom}
@@ -95,20 +95,11 @@ pub record Hosts (h : HostState) (said : Reply) (s : Instrument) (r : HostReply)
 abbrev pub unread : HostState → HostOutcome
 unread h = record { reply = refusing unformed; state = h }
 
--- what was made of the state that was read, where `post` says what the instrument's call may give
-pub record Called (post : Instrument → code.Called → Type 0) (h : HostState) (r : HostOutcome) : Type 0 where
-  pub state : Instrument
-  pub gave : code.Called
-  pub from : ReadFrom h state
-  pub gives : post state gave
-  pub hosts : Hosts h (reply_of gave.reply) gave.state r.reply r.state
+-- where `post` says what the instrument's call may give: that it is the call c
+abbrev pub Makes : (Instrument → code.Called → Type 0) → Call → Type 0
+Makes post c = (s : Instrument) (o : code.Called) → post s o → StepAs s c (reply_of o.reply) o.state
 
--- a call on the state that the numbers stand for, and on no other numbers
-pub record HostedBy (post : Instrument → code.Called → Type 0) (h : HostState) (r : HostOutcome) : Type 0 where
-  pub read : numbered h ≡ true → Called post h r
-  pub unread : numbered h ≡ false → r ≡ unread h
-
--- the same of a query: what was said of the state that was read
+-- a query on the state that the numbers stand for, and on no other numbers: what was said of the state that was read
 pub record Answered (post : Instrument → HostReply → Type 0) (h : HostState) (said : HostReply) : Type 0 where
   pub state : Instrument
   pub from : ReadFrom h state

@@ -11,7 +11,7 @@ ghost use Rattle.instrument.specs.Asked.{active_of, voices_of, handle_of};
 ghost use Rattle.instrument.specs.Mixes.{mix_reply_of};
 ghost use Rattle.wire.specs.Reads.{flag_of, model_of};
 ghost use Rattle.host.specs.Said.{saying, kind_of, refusing, said_of, report_of, said_start, said_answer};
-ghost use Rattle.host.specs.Hosted.{Hosts, HostedBy, AskedBy, BegunAs, HostCallAs, HostPlanAs, HostMixAs, HostStartAs, HostVoiceAs, host_asked};
+ghost use Rattle.host.specs.Hosted.{Hosts, Makes, AskedBy, BegunAs, HostCallAs, HostPlanAs, HostMixAs, HostStartAs, HostVoiceAs, host_asked};
 
 use design::InstrumentDesign;
 use instrument::{Instrument, Reply, Report};
@@ -215,7 +215,7 @@ fn refused(h: HostState, refusal: Refusal) -> HostOutcome
 // The call on the state that the numbers stand for; numbers that stand for none are refused.
 fn hosted<F: FnOnce(Instrument) -> Outcome<Instrument, Reply>>(h: HostState, call: F) -> HostOutcome
     requires { F.IsAlwaysCallable call }
-    ensures { HostedBy (F.post call) h result }
+    ensures { (c : Call) → Makes (F.post call) c → HostCallAs h c result }
 {
     match Instrument::try_from(&h) {
         Ok(s) => outcome(h, call(s)),

@@ -47,7 +47,7 @@ pub struct Instrument {
     pub trem: f32,
     // Notes held in Mono.
     pub held: Held,
-    // Frames of the open block, 0 where none is open.
+    // Frames of the open block, 0 where none is open: a number, since the checks count with it.
     pub frames: usize,
 }
 
@@ -71,7 +71,7 @@ pub enum Reply {
     Planned,
 }
 
-// What Mix reports: the voices that ended with the block.
+// What Mix reports: the voices that ended with the block, in an array with a count, since there is no heap.
 #[derive(Clone, Copy)]
 pub struct Report {
     pub count: usize,
