@@ -1,5 +1,6 @@
 // The start and the calls of a run of the code: each function is a method's call alone, and promises what the account
-// asks of a start or of a call.
+// asks of a start or of a call. `c_functions` has the same of the C functions: one by one, since each names the one call
+// whose promise it carries over.
 
 ghost use Rattle.model.specs.Types.{Control, Call};
 ghost use Rattle.instrument.specs.Calls.{StartAs};

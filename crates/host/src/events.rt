@@ -7,7 +7,7 @@ ghost use Rattle.host.specs.Events.{HostTickAs, kind_of, event_at, event_of};
 
 use envelope::EnvGen;
 use midi::{Cursor, Event};
-use outcome::Outcome;
+use outcome::{Outcome, Refusal};
 use wire::HostEnv;
 
 #[repr(C)]
@@ -65,7 +65,10 @@ pub fn cirstumbe_env_tick(env: HostEnv) -> HostEnvOutcome
     ensures { HostTickAs env result }
 {
     if !env.is_numbered() {
-        return HostEnvOutcome { number: 1, env };
+        return HostEnvOutcome {
+            number: Refusal::Malformed.number().into(),
+            env,
+        };
     }
     HostEnvOutcome {
         number: 0,

@@ -352,6 +352,7 @@ fn unmixed(h: HostState, refusal: Refusal) -> HostMixOutcome
     }
 }
 
+// Not by `hosted`, as Plan.
 pub fn cirstumbe_mix(h: HostState, samples: &[f32], out: &mut [f32]) -> HostMixOutcome
     ensures { HostMixAs h samples.now out.old out.new result }
 {

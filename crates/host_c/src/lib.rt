@@ -1,4 +1,5 @@
 // The functions of the archive for a host in C or Rust: each is the call of `host` of its name, and promises what that promises.
+// Here by name once more, since nothing can build on a static library.
 
 #![tactic(auto)]
 

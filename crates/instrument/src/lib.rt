@@ -206,7 +206,8 @@ impl Instrument {
             && self.held.distinct()
     }
 
-    // What bars a call other than Mix: check 1, and an open block.
+    // What bars a call other than Mix: check 1, and an open block. A call gives its state back with the refusal, which `?`
+    // cannot, so each begins with the same lines.
     #[tactic(auto, unfolding(crate::specs::Calls::barred_by))]
     fn barred(&self) -> Result<(), Refusal>
         ensures { result ≡ barred_by self.now }
@@ -240,7 +241,8 @@ impl Instrument {
         self.spawn_voice(note, level, built)
     }
 
-    // A new handle, with a voice where one was built; for the voice room is made.
+    // A new handle, with a voice where one was built; for the voice room is made. The call's own three arguments: a struct
+    // would be made for one call and taken apart at once.
     fn spawn_voice(mut self, note: u8, velocity: f32, built: bool) -> Outcome<Instrument, Reply>
         requires { (counted self ≡ true) × (is_accepted self.design ≡ true) × (self.next_handle < last_handle) }
         ensures { Gives (new_note (view self) (view self).held note velocity built) result }

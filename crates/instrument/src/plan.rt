@@ -75,7 +75,7 @@ impl Instrument {
         }
     }
 
-    // The host's values act on every copy, and the phases move on by the block.
+    // The host's values act on every copy, and the phases move on by the block. The call's own arguments, as it is given them.
     fn apply_modulation(mut self, frames: usize, vibrato: f32, filter: f32, sine: f32) -> Instrument
         requires { (frames ≤ 1024) × (rate_fits self.design.sample_rate ≡ true) }
         ensures { StandsFor self (applied (view self) frames vibrato filter sine) result }

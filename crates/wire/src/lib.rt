@@ -105,7 +105,7 @@ pub struct HostState {
     pub frames: usize,
 }
 
-// No `From`, since neither the number nor the mode is a type of this crate.
+// No `From`: the numbers are the host's alone, and the mode is `design`'s.
 #[tactic(auto, unfolding(crate::specs::Reads::mode_of))]
 fn mode_of(number: u32) -> PlayMode
     ensures { result ≡ mode_of number }
@@ -131,7 +131,8 @@ fn stage_of(number: u32) -> Stage
     }
 }
 
-// The first `count` items, each made into another. What stands behind them means nothing.
+// The first `count` items, each made into another. What stands behind them means nothing. By index: of what goes through
+// a zip of `iter_mut` a proof knows nothing, and the library's `map` would make what stands behind the count too.
 fn first_made<A: Copy, B: Copy, const N: usize, F: Fn(A) -> B>(
     items: &[A; N],
     count: usize,

@@ -104,6 +104,7 @@ impl From<InstrumentDesign> for HostDesign {
     }
 }
 
+// By a name, since its promise is more than the cast: read back it gives the stage.
 #[tactic(auto, unfolding(crate::specs::Reads::stage_of))]
 fn stage_number(stage: Stage) -> u32
     ensures { (stage_of result ≡ stage) × (leb result 4 ≡ true) }
