@@ -86,7 +86,8 @@ pub struct InstrumentDesign {
     pub modulation: Modulation,
 }
 
-// The design of the state that comes with a refused start. By hand, so that it says which design that is.
+// The design of the state that comes with a refused start.
+// By hand: a derived one promises what its fields' own do, and no wrong edit of it could be written.
 impl Default for InstrumentDesign {
     ghost is_default = { λ d. d ≡ zero_design };
 

@@ -2,12 +2,12 @@
 
 #![tactic(auto)]
 
-ghost use Rattle.std.specs.Prelude.{◌≡◌};
+ghost use Rattle.std.specs.Prelude.{◌≡◌, cond};
 ghost use Rattle.std.specs.List.{list_all};
 ghost use Rattle.std.specs.Float.Ieee.Scale.{finite};
 ghost use Rattle.envelope.specs.Start.{rate_fits, new_env, refused_env};
 ghost use Rattle.envelope.specs.Gates.{at, gated_on, gated_off, killed, is_active, is_faded};
-ghost use Rattle.envelope.specs.Ticks.{ticked, ticked_attack, ticked_decay, ticked_release};
+ghost use Rattle.envelope.specs.Ticks.{ticked};
 
 use outcome::{Outcome, Refusal};
 
@@ -60,7 +60,7 @@ fn refused(reason: Refusal) -> Outcome<EnvGen, ()>
 }
 
 impl EnvGen {
-    // Four settings and no struct of them: the Rust's `EnvGen::new` takes them so.
+    // Four settings and no struct of them: only this function takes the four together, so a struct would serve one call.
     #[tactic(auto, using(crate::proofs::Starts::rates), unfolding(crate::specs::Start::new_env, crate::specs::Start::settled, crate::specs::Start::all_finite))]
     pub fn new(a: f32, d: f32, s: f32, r: f32, rate: u32) -> Outcome<EnvGen, ()>
         ensures { result ≡ new_env a d s r rate }
@@ -145,59 +145,43 @@ impl EnvGen {
         self.stage == Stage::Sustain && self.s <= 1e-4
     }
 
-    // One sample further. The record's level is the sample.
-    #[tactic(auto, unfolding(crate::specs::Ticks::ticked, crate::specs::Ticks::ticked_in, crate::specs::Gates::at))]
+    // At the next level of its segment, or at the segment's end in the stage after it.
+    #[tactic(auto, unfolding(crate::specs::Gates::at))]
+    fn toward(self, level: f32, over: bool, end: Stage, last: f32) -> EnvGen
+        ensures { result ≡ cond over (at self end last) (at self self.stage level) }
+    {
+        if over {
+            self.at(end, last)
+        } else {
+            self.at(self.stage, level)
+        }
+    }
+
+    // One sample further. The record's level is the sample. A time not above 0 ends its segment at once.
+    #[tactic(auto, unfolding(crate::specs::Ticks::ticked, crate::specs::Ticks::ticked_in, crate::specs::Ticks::ticked_attack, crate::specs::Ticks::ticked_decay, crate::specs::Ticks::ticked_release, crate::specs::Ticks::rise, crate::specs::Ticks::fall, crate::specs::Ticks::decline, crate::specs::Gates::at))]
     pub fn tick(self) -> EnvGen
         ensures { result ≡ ticked self }
     {
         match self.stage {
             Stage::Idle => self.at(Stage::Idle, 0.0),
-            Stage::Attack => self.tick_attack(),
-            Stage::Decay => self.tick_decay(),
+            Stage::Attack => {
+                let level = self.level + 1.0 / (self.a * self.sr);
+                self.toward(level, self.a <= 0.0 || level >= 1.0, Stage::Decay, 1.0)
+            }
+            Stage::Decay => {
+                let level = self.level - (1.0 - self.s) / (self.d * self.sr);
+                self.toward(
+                    level,
+                    self.d <= 0.0 || level <= self.s,
+                    Stage::Sustain,
+                    self.s,
+                )
+            }
             Stage::Sustain => self.at(Stage::Sustain, self.s),
-            Stage::Release => self.tick_release(),
+            Stage::Release => {
+                let level = self.level - self.rel_from / (self.r * self.sr);
+                self.toward(level, self.r <= 0.0 || level <= 0.0, Stage::Idle, 0.0)
+            }
         }
-    }
-
-    #[tactic(auto, unfolding(crate::specs::Ticks::ticked_attack, crate::specs::Ticks::rise))]
-    fn tick_attack(self) -> EnvGen
-        ensures { result ≡ ticked_attack self }
-    {
-        if self.a <= 0.0 {
-            return self.at(Stage::Decay, 1.0);
-        }
-        let level = self.level + 1.0 / (self.a * self.sr);
-        if level >= 1.0 {
-            return self.at(Stage::Decay, 1.0);
-        }
-        self.at(Stage::Attack, level)
-    }
-
-    #[tactic(auto, unfolding(crate::specs::Ticks::ticked_decay, crate::specs::Ticks::fall))]
-    fn tick_decay(self) -> EnvGen
-        ensures { result ≡ ticked_decay self }
-    {
-        if self.d <= 0.0 {
-            return self.at(Stage::Sustain, self.s);
-        }
-        let level = self.level - (1.0 - self.s) / (self.d * self.sr);
-        if level <= self.s {
-            return self.at(Stage::Sustain, self.s);
-        }
-        self.at(Stage::Decay, level)
-    }
-
-    #[tactic(auto, unfolding(crate::specs::Ticks::ticked_release, crate::specs::Ticks::decline))]
-    fn tick_release(self) -> EnvGen
-        ensures { result ≡ ticked_release self }
-    {
-        if self.r <= 0.0 {
-            return self.at(Stage::Idle, 0.0);
-        }
-        let level = self.level - self.rel_from / (self.r * self.sr);
-        if level <= 0.0 {
-            return self.at(Stage::Idle, 0.0);
-        }
-        self.at(Stage::Release, level)
     }
 }

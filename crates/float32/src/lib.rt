@@ -14,6 +14,7 @@ ghost use Rattle.float32.specs.OrderLaws.{OrderOfLevels};
 
 use std::num::{f32_from_bits_with_nan, f32_to_bits_with_nan};
 
+// std's, under the contract that others cite; so are `is_finite` and `fract`.
 pub fn is_nan(x: f32) -> bool
     ensures { result ≡ is_nan x }
 {
@@ -104,10 +105,7 @@ const ROOTS: [f32; 9] = [
 pub fn root(n: u8) -> f32
     ensures { result ≡ root_of n }
 {
-    if n > 8 {
-        return f32::NAN;
-    }
-    ROOTS[n as usize]
+    ROOTS.get(n as usize).copied().unwrap_or(f32::NAN)
 }
 
 // The theorem that each root from 1 to 8 is the float nearest to the real root.
@@ -122,7 +120,7 @@ pub fn order_of_levels()
     ensures { OrderOfLevels }
 {}
 
-// The float of a bit pattern. Every NaN pattern gives a NaN.
+// The float of a bit pattern. Every NaN pattern gives a NaN; the pattern of one is refused by std's `from_bits`.
 pub fn from_bits(b: u32) -> f32
     ensures { result ≡ of_bits binary32 b }
 {

@@ -29,9 +29,10 @@ fn spread(k: u8, n: u8) -> f32
     ensures { result ≡ spread_of k n }
 {
     if n <= 1 {
-        return 0.0;
+        0.0
+    } else {
+        (k as f32 / (n - 1) as f32 - 0.5) * 2.0
     }
-    (k as f32 / (n - 1) as f32 - 0.5) * 2.0
 }
 
 impl UnisonCopy {
@@ -76,11 +77,11 @@ impl UnisonCopy {
         ensures { result ≡ glided_to scale coeff self }
     {
         self.pitch_target = float32::max(scale, 0.0);
-        if float32::is_nan(coeff) {
-            self.glide = 1.0;
-            return self;
-        }
-        self.glide = float32::clamp(coeff, 1.1754944e-38, 1.0);
+        self.glide = if float32::is_nan(coeff) {
+            1.0
+        } else {
+            float32::clamp(coeff, 1.1754944e-38, 1.0)
+        };
         self
     }
 

@@ -1,4 +1,4 @@
-// The table of voices (the Rust's `voices: Vec<Voice>`): every pass over the voices of an instrument, once, by value.
+// The table of voices (the Rust's `voices: Vec<Voice>`): every pass over the voices of an instrument, once.
 // A table is an array with a count; a pass reads it up to its count, and never past the array.
 
 #![tactic(auto)]
@@ -24,7 +24,7 @@ mod plan;
 #[derive(Clone, Copy)]
 pub struct Table {
     pub voices: [Voice; 64],
-    // How many of them are live, in order of birth.
+    // How many of them are live, in order of birth: fixed memory, nothing is on the heap.
     pub count: usize,
 }
 

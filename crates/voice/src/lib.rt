@@ -153,7 +153,7 @@ impl Voice {
     pub fn plays(self, note: u8) -> bool
         ensures { result ≡ plays_of note (shown self) }
     {
-        self.note.0 == note && !self.releasing && !self.sustained
+        self.sounds_note(note) && !self.sustained
     }
 
     #[tactic(auto, unfolding(crate::specs::View::shown))]
@@ -201,6 +201,7 @@ fn new_copies(n: u8, width: f32, bend: f32, brightness: f32) -> [UnisonCopy; 8]
 }
 
 // A voice of a new note: its envelope is gated on, and its copies take over bend and brightness.
+// Two floats, as the Rust passes them: a struct of them would be taken apart at once.
 #[tactic(auto, unfolding(crate::specs::View::seen, crate::specs::View::shown, crate::specs::New::made_env, crate::specs::New::made_voice))]
 pub fn new_voice(
     design: InstrumentDesign,
