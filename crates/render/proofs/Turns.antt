@@ -6,7 +6,7 @@ use native.Mathlib.Nat.{mul-zero, mul-suc, mul-add}
 use native.Mathlib.Numerals.{add-one}
 use native.Mathlib.Omega.{arith}
 use lib.Ieee.{Float, nan, binary32, add, mul}
-use lib.ListN.{length, take, drop, get_or, set, length-set, length-take, length-drop, take-append-drop}
+use lib.ListN.{length, take, drop, get_or, set, length-set, length-take, length-drop}
 use lib.Seq.{take_all, get_or-drop, set-get_or, drop-drop, take-suc-set}
 use Rattle.std.proofs.lemmas.List.{drop_all, take_rest}
 use Rattle.lists.specs.Prefix.{take_more, take_min, drop_more, fold}

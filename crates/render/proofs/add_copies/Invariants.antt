@@ -1,5 +1,5 @@
 use mathlib.Core.Path.{◌≡◌}
-use Prim.Native.Nat.{◌+◌, ◌*◌, ◌≤◌}
+use Prim.Native.Nat.{◌*◌, ◌≤◌}
 use lib.ListN.{length, drop}
 use Rattle.std.specs.Slice.Iter.{chunks_rest, chunks_size}
 use Rattle.lists.specs.Prefix.{fold}
