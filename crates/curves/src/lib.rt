@@ -1,4 +1,4 @@
-// Plan's glide of a voice: each copy writes its pitch numbers (the Rust's `glide_block`, copy by copy).
+// Plan's glide of a voice: each copy writes its pitch numbers (the Rust's `glide_block`, four copies side by side).
 
 #![tactic(auto)]
 
@@ -10,7 +10,7 @@ use lists::fills;
 use stream::UnisonCopy;
 use voice::Voice;
 
-// The pitch one sample later.
+// The pitch one sample later. This, `step` and `heard` are one frame of `glide_block`, for the pass side by side.
 #[tactic(auto, unfolding(stream::specs::Pitch::glide_step))]
 fn next_pitch(c: UnisonCopy) -> f32
     ensures { result ≡ glide_step c }
@@ -43,8 +43,8 @@ fn steady(c: UnisonCopy) -> bool
     float32::to_bits(next_pitch(c)) == float32::to_bits(c.pitch)
 }
 
-// One number in every place. A loop: the library's `fill` writes the last place by itself, and with it Plan's own code
-// takes a quarter more instructions where 64 voices of eight copies stand, at 64 frames.
+// One number in every place. A loop: a form may cost a tenth of Plan's instructions, and the library's `fill`, which
+// writes the last place by itself, costs a quarter (64 voices of eight copies that stand, at 64 frames).
 fn hold(x: f32, out: &mut [f32])
     ensures { out.new ≡ replicate (length out.old) x }
 {
@@ -96,7 +96,8 @@ fn first_four(copies: &[UnisonCopy]) -> Option<[UnisonCopy; 4]>
     if steady(four[0]) { None } else { Some(*four) }
 }
 
-// Up to four copies fill their part of the curve, side by side or one after the other.
+// Up to four copies fill their part of the curve, side by side or one after the other. No struct of what travels
+// together: each call lends another piece of it, so it would be made anew for each.
 fn glide_few(copies: &mut [UnisonCopy], frames: usize, curve: &mut [f32])
     requires { (length copies.old ≤ 4) × (frames * length copies.old ≡ length curve.old) }
     ensures { GlidedCopies frames copies.old copies.new curve.new }
@@ -117,6 +118,7 @@ fn glide_copies(copies: &mut [UnisonCopy], frames: usize, curve: &mut [f32])
     ensures { GlidedCopies frames copies.old copies.new curve.new }
 {
     let n = copies.len();
+    // The parts by index: of what goes through `chunks_mut` a proof knows nothing.
     for i in (0..n).step_by(4) {
         let end = n.min(i + 4);
         glide_few(
@@ -134,6 +136,7 @@ pub fn glide_voice(mut v: Voice, frames: usize, curve: &mut [f32]) -> Voice
 {
     let n = v.copies_shown();
     if fills(frames, n, curve.len()) {
+        // Out and back: of a part of a field that a call writes through a proof knows nothing.
         let mut copies = v.copies;
         glide_copies(&mut copies[..n], frames, curve);
         v.copies = copies;

@@ -40,7 +40,8 @@ struct Run {
     at: usize,
 }
 
-// The frames of a stage, step by step, short of its end.
+// The frames of a stage, step by step, short of its end. No struct of the envelope, `by` and the frames: each run starts
+// from another envelope and lends another piece of the frames, so it would be made anew for each.
 fn walk<N: Fn(f32) -> f32, E: Fn(f32) -> bool>(
     e: EnvGen,
     next: N,

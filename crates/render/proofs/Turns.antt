@@ -6,10 +6,9 @@ use native.Mathlib.Nat.{mul-zero, mul-suc, mul-add}
 use native.Mathlib.Numerals.{add-one}
 use native.Mathlib.Omega.{arith}
 use lib.Ieee.{Float, nan, binary32, add, mul}
-use lib.ListN.{length, take, drop, get_or, set, length-set, length-take, length-drop, take-append-drop}
+use lib.ListN.{length, take, drop, get_or, set, length-set, length-take, length-drop}
 use lib.Seq.{take_all, get_or-drop, set-get_or, drop-drop, take-suc-set}
 use Rattle.std.proofs.lemmas.List.{drop_all, take_rest}
-use Rattle.lists.specs.Parts.{part-size}
 use Rattle.lists.specs.Prefix.{take_more, take_min, drop_more, fold}
 use Rattle.stream.specs.declared.UnisonCopy.{UnisonCopy}
 use Rattle.model.specs.Mix.{add_side, Mixing, mixing, interleave}
@@ -139,18 +138,17 @@ module _ (side : UnisonCopy → Float) (n m : ℕ) (es : List Float) where
       let behind : drop (n * (j + 1)) xs ≡ drop (n * 1) (drop (n * j) xs) = sym (rw all at (drop-drop (n * 1) (n * j) xs)) in
       sym (copies-turn 1 (drop (n * j) xs) o _ _ (get_or cs j no_copy ∷ []) (drop (j + 1) cs) (drop j cs) (drop_more cs j no_copy h) refl behind refl)
 
-  -- the copies from j up to e are done
-  pub few-turn : (at j e : ℕ) (xs o w t : List Float) (cs : List UnisonCopy) → j ≤ e → e ≤ length cs
-      → w ≡ (fold (part_copy side n m es) (mixing (drop (n * j + at) xs) o) (take (e - j) (drop j cs))).sums
-      → (fold (part_copy side n m es) (mixing (drop (n * j + at) xs) o) (drop j cs)).sums ≡ t
-      → (fold (part_copy side n m es) (mixing (drop (n * e + at) xs) w) (drop e cs)).sums ≡ t
-  few-turn at j e xs o w t cs h last p q =
-      let k = e - j in
-      let s : j + k ≡ e = omega arith in
-      let all : n * j + at + n * k ≡ n * e + at = let d = rw s at (mul-add n j k) in omega arith in
-      let parts : drop j cs ≡ take k (drop j cs) ++ drop e cs = rw (drop-drop k j cs, s) at (sym (take-append-drop k (drop j cs))) in
-      let behind : drop (n * e + at) xs ≡ drop (n * k) (drop (n * j + at) xs) = sym (rw all at (drop-drop (n * k) (n * j + at) xs)) in
-      copies-turn k (drop (n * j + at) xs) o w _ (take k (drop j cs)) (drop e cs) (drop j cs) parts (part-size j k cs (omega arith)) behind p ∙ q
+  -- a few copies are done, and the samples behind theirs are left
+  pub few-turn : (a : ℕ) (xs o w t : List Float) (few rest cs : List UnisonCopy) → cs ≡ few ++ rest
+      → w ≡ (fold (part_copy side n m es) (mixing (drop a xs) o) few).sums
+      → (fold (part_copy side n m es) (mixing (drop a xs) o) cs).sums ≡ t
+      → (fold (part_copy side n m es) (mixing (drop a (take (length xs - n * length few) (drop (n * length few) xs))) w) rest).sums ≡ t
+  few-turn a xs o w t few rest cs parts p q =
+      let k = n * length few in
+      let e : k + a ≡ a + k = omega arith in
+      let both : drop a (drop k xs) ≡ drop (a + k) xs = rw e at (drop-drop a k xs) in
+      let behind : drop a (drop k xs) ≡ drop k (drop a xs) = both ∙ sym (drop-drop k a xs) in
+      rw (take_rest xs k) (copies-turn (length few) (drop a xs) o w (drop a (drop k xs)) few rest cs parts refl behind p ∙ q)
 
 -- the code takes the copies that count
 pub copies-shown : (v : Voice) (k : ℕ) → k ≡ length (shown v).copies → take k v.copies ≡ (shown v).copies

@@ -47,6 +47,8 @@ fn add_frame<const K: usize>(
 
 // Copies go into a part in one pass, on both sides. By value: behind a reference each frame reads the gains anew, which
 // costs a tenth of the pass. The sums by index: of what goes through a zip of `iter_mut` a proof knows nothing.
+// No struct of what travels together from here on: each step lends another piece of it, so it would be made anew for
+// each call.
 #[tactic(auto, using(crate::proofs::Turns::part_turns))]
 fn add_together<const K: usize>(
     copies: [UnisonCopy; K],
@@ -106,16 +108,10 @@ fn add_copies(
     requires { CopiesFit n (length copies.now) a samples.now levels.now left.old right.old }
     ensures { BothSides (λ side sums. (fold (part_copy side n (length levels.now) levels.now) (mixing (drop a samples.now) sums) copies.now).sums) on_left on_right left.old right.old left.new right.new }
 {
-    for i in (0..copies.len()).step_by(4) {
-        let end = copies.len().min(i + 4);
-        add_few(
-            &copies[i..end],
-            &samples[n * i + a..],
-            n,
-            levels,
-            left,
-            right,
-        );
+    let mut rest = samples;
+    for few in copies.chunks(4) {
+        add_few(few, &rest[a..], n, levels, left, right);
+        rest = &rest[n * few.len()..];
     }
 }
 
@@ -178,11 +174,10 @@ pub fn add_voice(
 
 // The voice with another envelope.
 #[tactic(auto, unfolding(crate::specs::Mixes::with_env))]
-pub fn with_env(mut v: Voice, env: EnvGen) -> Voice
+pub fn with_env(v: Voice, env: EnvGen) -> Voice
     ensures { result ≡ with_env v env }
 {
-    v.env = env;
-    v
+    Voice { env, ..v }
 }
 
 // The sums of each side, left before right. By index: of what goes through `chunks_exact_mut` a proof knows nothing.

@@ -1,50 +1,34 @@
-use mathlib.Core.Path.{◌≡◌}
-use Prim.Native.Nat.{◌+◌, ◌-◌, ◌*◌, ◌≤◌, min}
-use native.Mathlib.Nat.{mul-le-mul_left, mul-add}
+use mathlib.Core.Path.{◌≡◌, refl, ◌∙◌}
+use mathlib.Core.List.{◌++◌}
+use Prim.Native.Nat.{◌+◌, ◌-◌, ◌*◌, ◌≤◌}
+use native.Mathlib.Nat.{mul-add}
 use native.Mathlib.Omega.{arith}
-use lib.ListN.{length, take, drop, length-drop}
+use lib.ListN.{length, take, drop, length-drop, length-append}
+use Rattle.std.specs.Slice.Iter.{chunks_rest}
 use Rattle.std.proofs.lemmas.List.{take_rest}
-use Rattle.lists.specs.Parts.{part-size}
 use Rattle.model.specs.Mix.{on_left, on_right}
 use Rattle.render.proofs.Turns.{few-turn}
 use Rattle.render.proofs.add_copies.Goals as goal
 
-pub add_few-requires : goal.add_few-requires
-add_few-requires c =
+pub loop-few-preserved : goal.loop-few-preserved
+loop-few-preserved c =
     let x = c.args in
-    let n = x.n in
-    let i = c.loop-i.i in
-    let e = c.min-end.result in
-    let need = c.requires in
-    let inputs = need.inputs in
-    let frames = need.frames in
-    let s : i + (e - i) ≡ e = omega arith in
-    let all : n * e ≡ n * i + n * (e - i) = rw s at (mul-add n i (e - i)) in
-    let last : e ≤ length x.copies.now = omega arith in
-    let some : i + 1 ≤ length x.copies.now = omega arith in
-    let whole = mul-le-mul_left n last in
-    let row = mul-le-mul_left n some in
-    let part : length (take (e - i) (drop i x.copies.now)) ≡ e - i = part-size i (e - i) x.copies.now (omega arith) in
-    rw (part, take_rest x.samples.now (n * i + x.a)) (
-      omega arith,
-      record {
-        inputs = rw length-drop (omega arith);
-        first = rw length-drop (omega arith);
-        left_sums = omega arith;
-        right_sums = omega arith;
-      },
-    )
-
-pub loop-i-preserved : goal.loop-i-preserved
-loop-i-preserved c =
-    let x = c.args in
-    let l = c.loop-i in
-    let cs = x.copies.now in
-    let at : min (length cs) l.i ≡ l.i = omega arith in
-    let next : min (length cs) (l.i + 4) ≡ c.min-end.result = omega arith in
-    let i = rw at at l.invariant in
-    let e = rw (take_rest x.samples.now (x.n * l.i + x.a)) at c.add_few.ensures in
-    rw next (
-      few-turn on_left x.n _ x.levels.now x.a l.i c.min-end.result x.samples.now l.left _ _ cs (omega arith) (omega arith) e.on_left i.0,
-      few-turn on_right x.n _ x.levels.now x.a l.i c.min-end.result x.samples.now l.right _ _ cs (omega arith) (omega arith) e.on_right i.1,
+    let l = c.loop-few in
+    let few = c.in-Some.few.now in
+    let before = chunks_rest l.few-iterator in
+    let later = chunks_rest c.next.new.self in
+    let xs = l.rest.now in
+    let k = x.n * length few in
+    let s = c.in-Some.ensures.steps in
+    let parts : before ≡ few ++ later = s.1.0 in
+    let i = l.invariant in
+    let e = rw (take_rest xs x.a) at c.add_few.ensures in
+    let count : length before ≡ length few + length later = rw (parts, length-append) refl in
+    let all = mul-add x.n (length few) (length later) in
+    let old : x.n * (length few + length later) ≤ length xs = rw count at i.1 in
+    let room : x.n * length later ≤ length (take (length xs - k) (drop k xs)) = rw (take_rest xs k, length-drop) (omega (arith, all, old)) in (
+      s.0 ∙ i.0,
+      room,
+      few-turn on_left x.n _ x.levels.now x.a xs l.left _ _ few later before parts e.on_left i.2,
+      few-turn on_right x.n _ x.levels.now x.a xs l.right _ _ few later before parts e.on_right i.3,
     )
