@@ -10,7 +10,10 @@ ghost use Rattle.forms.specs.Parts.{LedDecimal, LedWord, ModeAs, AmpAs, Modulati
 
 use design::{Adsr, InstrumentDesign, Modulation, PlayMode};
 
-// Seconds, seconds, a level, seconds. A float is read as its bits.
+// The forms are twins of the design's structs, and hold a float's bits: the line's very text is promised, and a float may
+// lose a NaN's bits.
+
+// Seconds, seconds, a level, seconds.
 #[derive(Clone, Copy)]
 pub struct AmpForm {
     pub a: u32,
@@ -42,48 +45,48 @@ pub struct DesignForm {
     pub modulation: ModulationForm,
 }
 
-impl AmpForm {
-    fn amp(self) -> Adsr
-        ensures { result ≡ amp_of self }
-    {
+impl From<AmpForm> for Adsr {
+    ghost from_gives = { λ f r. r ≡ amp_of f };
+
+    fn from(f: AmpForm) -> Adsr {
         Adsr {
-            a: float32::from_bits(self.a),
-            d: float32::from_bits(self.d),
-            s: float32::from_bits(self.s),
-            r: float32::from_bits(self.r),
+            a: float32::from_bits(f.a),
+            d: float32::from_bits(f.d),
+            s: float32::from_bits(f.s),
+            r: float32::from_bits(f.r),
         }
     }
 }
 
-impl ModulationForm {
-    fn modulation(self) -> Modulation
-        ensures { result ≡ modulation_of self }
-    {
+impl From<ModulationForm> for Modulation {
+    ghost from_gives = { λ f r. r ≡ modulation_of f };
+
+    fn from(f: ModulationForm) -> Modulation {
         Modulation {
-            vibrato_rate: float32::from_bits(self.vibrato_rate),
-            vibrato_cents: float32::from_bits(self.vibrato_cents),
-            tremolo_rate: float32::from_bits(self.tremolo_rate),
-            tremolo_depth: float32::from_bits(self.tremolo_depth),
-            filter_rate: float32::from_bits(self.filter_rate),
-            filter_octaves: float32::from_bits(self.filter_octaves),
+            vibrato_rate: float32::from_bits(f.vibrato_rate),
+            vibrato_cents: float32::from_bits(f.vibrato_cents),
+            tremolo_rate: float32::from_bits(f.tremolo_rate),
+            tremolo_depth: float32::from_bits(f.tremolo_depth),
+            filter_rate: float32::from_bits(f.filter_rate),
+            filter_octaves: float32::from_bits(f.filter_octaves),
         }
     }
 }
 
-impl DesignForm {
-    // The design that the line names.
-    pub fn design(self) -> InstrumentDesign
-        ensures { result ≡ design_of self }
-    {
+// The design that the line names.
+impl From<DesignForm> for InstrumentDesign {
+    ghost from_gives = { λ f r. r ≡ design_of f };
+
+    fn from(f: DesignForm) -> InstrumentDesign {
         InstrumentDesign {
-            sample_rate: self.rate,
-            max_voices: self.max,
-            mode: self.mode,
-            unison: self.unison,
-            unison_width: float32::from_bits(self.width),
-            amp: self.amp.amp(),
-            glide: float32::from_bits(self.glide),
-            modulation: self.modulation.modulation(),
+            sample_rate: f.rate,
+            max_voices: f.max,
+            mode: f.mode,
+            unison: f.unison,
+            unison_width: float32::from_bits(f.width),
+            amp: Adsr::from(f.amp),
+            glide: float32::from_bits(f.glide),
+            modulation: Modulation::from(f.modulation),
         }
     }
 }

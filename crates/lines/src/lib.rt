@@ -13,6 +13,7 @@ use std::io::Read;
 use std::marker::Model;
 
 // The line under way: of a longer one, its first N bytes.
+// An array and a length, and no `String`: there is no heap. The invariant ties the two.
 #[derive(Drop)]
 pub struct Line<const N: usize> {
     bytes: [u8; N],

@@ -5,29 +5,29 @@
 ghost use Rattle.std.specs.Prelude.{◌≡◌};
 ghost use Rattle.outcome.specs.Numbers.{number_of};
 
-// Why a call is refused, in the order of the numbers.
+// Why a call is refused, with the number that a host is given.
 #[derive(Clone, Copy, Debug, PartialEq, Eq)]
 pub enum Refusal {
-    // 1: the state is not well formed.
-    Malformed,
-    // 2: a number of the design lies outside its limits.
-    OutsideLimits,
-    // 3: a float of the design is not finite.
-    NotFinite,
-    // 4: Plan's frames lie outside their limits.
-    Frames,
-    // 5: a block is open, and the call is neither Mix nor a query.
-    BlockOpen,
-    // 6: no block is open for Mix.
-    NoBlock,
-    // 7: what was lent has not the exact length.
-    LentLength,
-    // 8: a new handle is due, and none is left.
-    NoHandleLeft,
-    // 9: the place lies beyond the stream, or the running status is none.
-    NoSuchPlace,
-    // 10: the stream ends inside a message.
-    CutShort,
+    // The state is not well formed.
+    Malformed = 1,
+    // A number of the design lies outside its limits.
+    OutsideLimits = 2,
+    // A float of the design is not finite.
+    NotFinite = 3,
+    // Plan's frames lie outside their limits.
+    Frames = 4,
+    // A block is open, and the call is neither Mix nor a query.
+    BlockOpen = 5,
+    // No block is open for Mix.
+    NoBlock = 6,
+    // What was lent has not the exact length.
+    LentLength = 7,
+    // A new handle is due, and none is left.
+    NoHandleLeft = 8,
+    // The place lies beyond the stream, or the running status is none.
+    NoSuchPlace = 9,
+    // The stream ends inside a message.
+    CutShort = 10,
 }
 
 impl Refusal {
@@ -35,18 +35,7 @@ impl Refusal {
     pub fn number(self) -> u8
         ensures { result ≡ number_of self }
     {
-        match self {
-            Refusal::Malformed => 1,
-            Refusal::OutsideLimits => 2,
-            Refusal::NotFinite => 3,
-            Refusal::Frames => 4,
-            Refusal::BlockOpen => 5,
-            Refusal::NoBlock => 6,
-            Refusal::LentLength => 7,
-            Refusal::NoHandleLeft => 8,
-            Refusal::NoSuchPlace => 9,
-            Refusal::CutShort => 10,
-        }
+        self as u8
     }
 }
 

@@ -9,6 +9,7 @@ mod page;
 pub mod sums;
 
 // The largest number that the letter of a decimal takes: a flag, one of three, a note, a handle; any other has 32 bits.
+// Letters and no enum: they are the format's own text, and a pattern stands in the code as its line is printed.
 fn most(letter: u8) -> u64 {
     match letter {
         b'F' => 1,
@@ -39,7 +40,7 @@ fn stream(line: &[u8]) -> Option<(u64, &[u8])> {
     }
 }
 
-// `W` is a word, `B` a byte in two digits, `S` a stream, and any other letter a decimal.
+// By the letter, as `most`: `W` is a word, `B` a byte in two digits, `S` a stream, and any other letter a decimal.
 fn number(line: &[u8], letter: u8) -> Option<(u64, &[u8])> {
     match letter {
         b'W' => text::word(line).map(|(word, rest)| (u64::from(word), rest)),
@@ -49,10 +50,10 @@ fn number(line: &[u8], letter: u8) -> Option<(u64, &[u8])> {
     }
 }
 
-// The numbers of a line that is the pattern, in their order: as many as the pattern has letters.
+// The first N numbers of a line that is the pattern, in their order; where it has fewer letters, zeros behind them.
 pub fn fits<const N: usize>(line: &[u8], pattern: &[u8]) -> Option<[u64; N]> {
     let mut values = [0; N];
-    let mut count = 0;
+    let mut places = values.iter_mut();
     let mut rest = line;
     for p in pattern {
         if !p.is_ascii_uppercase() {
@@ -61,9 +62,8 @@ pub fn fits<const N: usize>(line: &[u8], pattern: &[u8]) -> Option<[u64; N]> {
         }
         let (value, behind) = number(rest, *p)?;
         rest = behind;
-        if count < N {
-            values[count] = value;
-            count += 1;
+        if let Some(place) = places.next() {
+            *place = value;
         }
     }
     if rest.is_empty() { Some(values) } else { None }

@@ -3,6 +3,7 @@
 use crate::word_of;
 
 // The text so far stands up to `at`. What finds no room is left out.
+// A buffer and a place, and no `String`: there is no heap, so the buffer is lent.
 #[derive(Drop)]
 pub struct Page<'a> {
     out: &'a mut [u8],
@@ -37,7 +38,7 @@ impl<'a> Page<'a> {
         self.literal(&digits[6..]);
     }
 
-    // A number as the letter says: `W` 8 digits, `B` two, `X` 16, and any other letter a decimal.
+    // A number as the letter says, the format's own text: `W` 8 digits, `B` two, `X` 16, and any other letter a decimal.
     fn number(&mut self, letter: u8, n: u64) {
         match letter {
             b'W' => self.word(word_of(n)),

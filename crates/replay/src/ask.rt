@@ -201,7 +201,7 @@ pub fn read(line: &[u8]) -> Option<Request> {
         return None;
     }
     match forms::read(line) {
-        Some(Form::Design(f)) => Some(Request::Start(f.design())),
+        Some(Form::Design(f)) => Some(Request::Start(InstrumentDesign::from(f))),
         Some(Form::On(f)) => Some(Request::Call(Call::On {
             note: f.note,
             velocity: float32::from_bits(f.velocity),

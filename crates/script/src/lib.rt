@@ -12,6 +12,7 @@ ghost use Rattle.forms.specs.Named.{design_of};
 ghost use Rattle.script.specs.Answers.{unread_text, one_text, start_text, reply_text, row_text, rows_text, table_text};
 ghost use Rattle.script.specs.Lines.{Puts, call_of, NoDesign, Stays, DesignDoes, OnDoes, VoicesDoes, LineAs};
 
+use design::InstrumentDesign;
 use forms::{DesignForm, Form, OnForm};
 use instrument::{Instrument, Reply};
 use outcome::Refusal;
@@ -157,7 +158,7 @@ fn design_line(s: Session, f: DesignForm, out: &mut [u8]) -> Said
     if let Some(_) = s {
         return unread(s, out);
     }
-    let made = Instrument::new(f.design());
+    let made = Instrument::new(InstrumentDesign::from(f));
     let count = put_start(out, made.reply);
     let Ok(()) = made.reply else {
         return Said { session: s, count };

@@ -33,7 +33,7 @@ pub fn decimal(text: &[u8], most: u64) -> Option<(u64, &[u8])>
     Some((value, rest))
 }
 
-// A capital hexadecimal digit.
+// A capital hexadecimal digit. By hand, as `digits`: `to_digit` and `from_str_radix` take small letters too.
 pub fn hex_value(byte: u8) -> Option<u8>
     ensures { ValueAs 16 glyph_of byte result }
 {
@@ -75,15 +75,13 @@ pub fn byte(text: &[u8]) -> Option<(u8, &[u8])>
     Some((value as u8, rest))
 }
 
-// The place behind the text, or `at` and the buffer as it was where it has no room. With no heap the buffer is lent, and
-// the caller goes on at the place.
+// The place behind the text, or `at` and the buffer as it was where it has no room.
+// A buffer and a place, here and in `put_decimal` and `put_word`: there is no heap, so the caller lends the buffer, and goes
+// on at the place.
 pub fn put_literal(out: &mut [u8], at: usize, text: &[u8]) -> usize
     ensures { PutAs text.now out.old at out.new result }
 {
-    if at > out.len() {
-        return at;
-    }
-    if text.len() > out.len() - at {
+    if at > out.len() || text.len() > out.len() - at {
         return at;
     }
     let next = at + text.len();
@@ -92,6 +90,8 @@ pub fn put_literal(out: &mut [u8], at: usize, text: &[u8]) -> usize
 }
 
 // From the last digit to the first.
+// By hand, as `glyph` and `spell_word`: the library's printing states the digits only where it succeeds, and no contract
+// says that it does where they have room.
 fn spell_decimal(n: u64, buffer: &mut [u8; 20]) -> usize
     ensures { EndsIn (decimal_text n) buffer.new result }
 {
