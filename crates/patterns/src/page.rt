@@ -51,8 +51,11 @@ impl<'a> Page<'a> {
         }
     }
 
-    // Prints a pattern with its numbers.
+    // Prints a pattern with its numbers. One without a number stands whole, or not at all.
     pub fn put(&mut self, pattern: &[u8], numbers: &[u64]) {
+        if numbers.is_empty() {
+            return self.literal(pattern);
+        }
         let mut rest = numbers.iter();
         for p in pattern {
             if p.is_ascii_uppercase() {

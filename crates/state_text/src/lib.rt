@@ -16,10 +16,12 @@ fn copy(page: &mut Page, c: &UnisonCopy) {
         bits(c.glide),
         bits(c.bend),
     ];
-    page.put(b" (W W W W W W ", &numbers);
     match c.cutoff {
-        None => page.put(b"-)", &[]),
-        Some(x) => page.put(b"W)", &[bits(x)]),
+        None => page.put(b" (W W W W W W -)", &numbers),
+        Some(x) => {
+            page.put(b" (W W W W W W ", &numbers);
+            page.put(b"W)", &[bits(x)]);
+        }
     }
 }
 
