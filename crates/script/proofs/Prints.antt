@@ -5,7 +5,7 @@ use native.Mathlib.Nat.{div-add-mod}
 use lib.Dec.{ltb}
 use borrow.Author.Tests.{ltb-false}
 use mathlib.Core.List.{List, [], ◌∷◌, ◌++◌, append_assoc, flat_map, map}
-use Prim.Native.Nat.{ℕ, zero, suc, ◌+◌, ◌-◌, ◌*◌, ◌/◌, ◌≤◌, ◌<◌, min}
+use Prim.Native.Nat.{ℕ, zero, suc, ◌+◌, ◌-◌, ◌*◌, ◌/◌, ◌≤◌, ◌<◌}
 use native.Mathlib.Omega.{arith}
 use lib.ListN.{length, take, drop, get_or, take-append-drop, length-append, length-take, length-drop}
 use lib.Seq.{take_all, take_at, drop_at, drop-drop}

@@ -1,7 +1,7 @@
 use mathlib.Core.Path.{◌≡◌}
 use mathlib.Core.List.{flat_map}
 use native.Mathlib.Omega.{arith}
-use lib.ListN.{length, take}
+use lib.ListN.{length}
 use Rattle.script.proofs.Prints.{puts, puts_none, rows_more, rows-done, rows-length-more, rows-length-done}
 use Rattle.table.proofs.Sizes.{voices-long}
 use Rattle.script.proofs.put_rows.Goals as goal
