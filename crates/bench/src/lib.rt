@@ -1,5 +1,6 @@
 // The Rattle side of the speed comparison (docs/BENCHMARK.md). Each export builds a state by real calls, repeats one
-// call `rounds` times and returns a sum over what the calls gave, which must equal the Rust's.
+// call `turns` times and returns a sum over what the calls gave, which must equal the Rust's. The parameters of an
+// export stand one by one: C passes numbers and slices.
 
 #![tactic(auto)]
 

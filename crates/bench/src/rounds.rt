@@ -58,7 +58,8 @@ fn kind(sum: u64, kind: u64, value: u64) -> u64 {
     sums::add(sums::add(sum, kind), value)
 }
 
-// Every event of a stream, to its end. A refusal is told as often as bytes are left.
+// Every event of a stream, to its end, in at most as many steps as bytes: behind a refusal each step tells it again.
+// No iterator of events: the outcome that ends the walk is told too, and the next step needs its cursor.
 fn stream(start: u64, bytes: &[u8]) -> u64 {
     let mut sum = start;
     let mut cursor = Cursor::default();

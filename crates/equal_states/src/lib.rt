@@ -24,7 +24,8 @@ use stream::UnisonCopy;
 use table::Table;
 use voice::Voice;
 
-// A part of a state, compared by what it shows.
+// A part of a state, compared by what it shows. No derive: floats are compared by their bits, so that NaNs and zeros
+// tell.
 trait Alike {
     ghost Shown: { Type 0 };
 
@@ -39,6 +40,13 @@ fn all_alike<T: Alike + Copy>(a: &[T], b: &[T]) -> bool
     ensures { Decides result (map T.shown a.now ≡ map T.shown b.now) }
 {
     a.len() == b.len() && a.iter().zip(b).all(|(x, y)| x.alike(*y))
+}
+
+// The counts as they stand, which may be beyond the arrays, and the items up to them.
+fn counted_alike<T: Alike + Copy>(m: usize, a: &[T], n: usize, b: &[T]) -> bool
+    ensures { Decides result (◌≡◌ {A = ℕ × List T.Shown} (m, map T.shown a.now) (n, map T.shown b.now)) }
+{
+    m == n && all_alike(a, b)
 }
 
 // By the bits: the zeros differ by their sign, and a NaN is any NaN.
@@ -119,13 +127,11 @@ impl Alike for Note {
     }
 }
 
-// The counts of copies as they stand, and the copies up to them.
-#[tactic(auto, using(crate::proofs::Prefixes::map_same))]
+#[tactic(auto, using(crate::proofs::Prefixes::map_same), unfolding(voice::specs::View::shown))]
 fn copies_alike(v: Voice, w: Voice) -> bool
     ensures { Decides result (copies_shown v ≡ copies_shown w) }
 {
-    let end = v.copy_count.min(8);
-    v.copy_count == w.copy_count && all_alike(&v.copies[..end], &w.copies[..end])
+    counted_alike(v.copy_count, v.live_copies(), w.copy_count, w.live_copies())
 }
 
 impl Alike for Voice {
@@ -146,27 +152,23 @@ impl Alike for Voice {
     }
 }
 
-// The counts of voices, and the voices up to them.
 impl Alike for Table {
     ghost Shown = { ℕ × List Seen };
 
     ghost shown = { table_shown };
 
     fn alike(self, other: Table) -> bool {
-        let end = self.count.min(64);
-        self.count == other.count && all_alike(&self.voices[..end], &other.voices[..end])
+        counted_alike(self.count, self.live(), other.count, other.live())
     }
 }
 
-// The counts of held notes, and the notes up to them.
 impl Alike for Held {
     ghost Shown = { ℕ × List ℕ };
 
     ghost shown = { held_shown };
 
     fn alike(self, other: Held) -> bool {
-        let end = self.count.min(256);
-        self.count == other.count && all_alike(&self.notes[..end], &other.notes[..end])
+        counted_alike(self.count, self.as_slice(), other.count, other.as_slice())
     }
 }
 
@@ -237,7 +239,7 @@ fn scales_same(a: Instrument, b: Instrument) -> bool
         && a.trem.alike(b.trem)
 }
 
-// The counts as they stand, and what is shown up to them.
+// Apart from `equal`, whose proof takes this answer whole, and not part by part.
 #[tactic(auto, unfolding(instrument::specs::View::view))]
 fn same(a: Instrument, b: Instrument) -> bool
     ensures { Decides result (Same a b) }

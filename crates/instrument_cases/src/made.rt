@@ -67,8 +67,9 @@ fn last<C: FnOnce(&mut Voice)>(s: &mut Instrument, change: C)
     requires { C.IsAlwaysCallable change }
 {
     let shown = s.table.count;
-    if 0 < shown && shown <= 64 {
-        change(&mut s.table.voices[shown - 1]);
+    let live = s.table.voices.get_mut(..shown);
+    if let Some(v) = live.and_then(|live| live.last_mut()) {
+        change(v);
     }
 }
 

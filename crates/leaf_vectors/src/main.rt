@@ -121,7 +121,7 @@ impl Leaf {
         self.env_words(refusal_number(new.reply))
     }
 
-    // G: gate_on, gate_off or kill.
+    // G: gate_on, gate_off or kill, by the number that stands in the line.
     fn gate_line(&mut self, line: &Line) -> Words {
         self.env = match line.words[0] {
             0 => self.env.gate_on(),

@@ -9,6 +9,7 @@ use std::io;
 mod parse;
 mod show;
 
+// No iterator: the outcome that ends the walk is told too, with its cursor.
 #[tactic(auto, using(midi::proofs::Whole::inside, midi::proofs::Whole::shrinks))]
 fn steps(rt: &impl Print, stream: &[u8], from: Cursor) -> io::Result<()> {
     let mut last = midi::step(stream, from);
@@ -19,21 +20,12 @@ fn steps(rt: &impl Print, stream: &[u8], from: Cursor) -> io::Result<()> {
     show::show_end(rt, last)
 }
 
-// `room` is for the bytes of the line.
-fn answer_line(rt: &impl Print, line: &[u8], room: &mut [u8]) -> io::Result<()> {
-    match parse::parse_line(line, room) {
+fn end_line(rt: &impl Print, line: &[u8]) -> io::Result<()> {
+    let mut room = [0; 100];
+    match parse::parse_line(line, &mut room) {
         Some((cursor, stream)) => steps(rt, stream, cursor),
         None => println!(rt; "(unread)"),
     }
-}
-
-// A line of 257 bytes stands for every one that is too long.
-fn end_line(rt: &impl Print, line: &[u8]) -> io::Result<()> {
-    if 256 < line.len() {
-        return rt.write_all(b"(unread)\n");
-    }
-    let mut stream = [0; 100];
-    answer_line(rt, line, &mut stream)
 }
 
 fn main(rt: HostRuntime) -> io::Result<()> {

@@ -19,8 +19,11 @@ fn bytes<'a>(digits: &[u8], room: &'a mut [u8]) -> Option<&'a [u8]> {
     Some(stream)
 }
 
-// The cursor and the stream, where the line has the form.
+// The cursor and the stream, where the line has the form. A line of 257 bytes stands for every one that is too long.
 pub fn parse_line<'a>(line: &[u8], room: &'a mut [u8]) -> Option<(Cursor, &'a [u8])> {
+    if 256 < line.len() {
+        return None;
+    }
     let parts = line.strip_prefix(b"(midi ")?.strip_suffix(b")")?;
     let (place, behind) = text::decimal(parts, u64::from(u32::MAX))?;
     let (status, behind) = text::byte(behind.strip_prefix(b" ")?)?;

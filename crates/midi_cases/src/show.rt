@@ -4,18 +4,9 @@ use midi::{Cursor, Event};
 use outcome::Outcome;
 use std::io;
 
-// A NaN has the bits 7FC00000.
-fn bits(value: f32) -> u32 {
-    if value.is_nan() {
-        0x7FC0_0000
-    } else {
-        value.to_bits()
-    }
-}
-
 pub fn show_event(rt: &impl Print, event: Event) -> io::Result<()> {
     match event {
-        Event::On(note, velocity) => println!(rt; "(on {note} {:08X})", bits(velocity)),
+        Event::On(note, velocity) => println!(rt; "(on {note} {:08X})", float32::to_bits(velocity)),
         Event::Off(note) => println!(rt; "(off {note})"),
         Event::Pedal(down) => println!(rt; "(pedal {})", u8::from(down)),
         Event::AllOff => println!(rt; "(alloff)"),

@@ -53,7 +53,7 @@ fn counted(mut counts: Counts, event: Event) -> Counts
     counts
 }
 
-// The work: every event from `from` on.
+// The work: every event from `from` on. No iterator: the outcome that ends the walk is told too, with its cursor.
 fn tally_from(stream: &[u8], from: Cursor) -> Tally
     ensures { result ≡ tallied stream.now from }
 {

@@ -4,6 +4,7 @@ use crate::said;
 use midi::Cursor;
 use patterns::Page;
 
+// No iterator: the outcome that ends the walk is told too, with its cursor.
 #[tactic(auto, using(midi::proofs::Whole::inside, midi::proofs::Whole::shrinks))]
 fn walk(page: &mut Page, stream: &[u8], from: Cursor) {
     let mut found = midi::step(stream, from);
@@ -14,7 +15,8 @@ fn walk(page: &mut Page, stream: &[u8], from: Cursor) {
     }
 }
 
-// The bytes that a text begins with, as many as there are.
+// The bytes that a text begins with, as many as there are. A request keeps their count and no slice, which would give
+// every request the lifetime of its line.
 fn bytes(line: &[u8]) -> [u8; 100] {
     let mut stream = [0; 100];
     let mut rest = line;

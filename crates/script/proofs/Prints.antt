@@ -5,7 +5,7 @@ use native.Mathlib.Nat.{div-add-mod}
 use lib.Dec.{ltb}
 use borrow.Author.Tests.{ltb-false}
 use mathlib.Core.List.{List, [], ◌∷◌, ◌++◌, append_assoc, flat_map, map}
-use Prim.Native.Nat.{ℕ, zero, suc, ◌+◌, ◌-◌, ◌*◌, ◌/◌, ◌≤◌, ◌<◌, min}
+use Prim.Native.Nat.{ℕ, zero, suc, ◌+◌, ◌-◌, ◌*◌, ◌/◌, ◌≤◌, ◌<◌}
 use native.Mathlib.Omega.{arith}
 use lib.ListN.{length, take, drop, get_or, take-append-drop, length-append, length-take, length-drop}
 use lib.Seq.{take_all, take_at, drop_at, drop-drop}
@@ -14,9 +14,9 @@ use Rattle.std.specs.Int.{from_bool}
 use Rattle.model.specs.Types as model
 use Rattle.text.specs.Put.{PutAs}
 use Rattle.lists.specs.Parts.{flat-more}
-use Rattle.lists.specs.Prefix.{take_min}
+use Rattle.std.proofs.lemmas.List.{length-map}
 use Rattle.voice.specs.declared.Voice.{Voice}
-use Rattle.voice.specs.View.{shown, seen}
+use Rattle.voice.specs.View.{Seen, shown, seen}
 use Rattle.voice.proofs.Sizes.{past_end}
 use Rattle.table.specs.View.{seen_first, voices_of}
 use Rattle.forms.specs.Forms.{decimal_part, word_part, space, close}
@@ -85,15 +85,12 @@ unfolding flat_map seen
 rows_seen [] = refl
 rows_seen (v ∷ vs) = ap (λ (t : List ℕ). row v ++ t) (rows_seen vs)
 
-rows-view : (vs : List Voice) (n m i : ℕ) → length vs ≡ 64 → m ≡ min n 64 → length (take m vs) ≤ i
-    → flat_map row (take i (take m vs)) ≡ flat_map row_text (voices_of (seen_first n vs))
-rows-view vs n m i s e g =
-    ap (flat_map row) (take_all i (take m vs) g ∙ ap (λ (z : ℕ). take z vs) e ∙ take_min n 64 vs s) ∙ rows_seen (take n vs)
+rows-view : (vs : List Voice) (ss : List Seen) (i : ℕ) → map seen vs ≡ ss → length vs ≤ i → flat_map row (take i vs) ≡ flat_map row_text (voices_of ss)
+rows-view vs ss i e g = ap (flat_map row) (take_all i vs g) ∙ rows_seen vs ∙ ap (λ (s : List Seen). flat_map row_text (voices_of s)) e
 
-pub rows-done : (vs : List Voice) (n m i : ℕ) (old mid new : List ℕ) (k l : ℕ) → length vs ≡ 64 → m ≡ min n 64 → length (take m vs) ≤ i
-    → Puts voices_word old 0 mid k → Puts (flat_map row (take i (take m vs))) mid k new l → Puts (rows_text (voices_of (seen_first n vs))) old 0 new l
-rows-done vs n m i old mid new k l s e g p q =
-    rw (← rows-view vs n m i s e g) (puts_then voices_word (flat_map row (take i (take m vs))) old mid new 0 k l p q)
+pub rows-done : (vs : List Voice) (ss : List Seen) (i : ℕ) (old mid new : List ℕ) (k l : ℕ) → map seen vs ≡ ss → length vs ≤ i
+    → Puts voices_word old 0 mid k → Puts (flat_map row (take i vs)) mid k new l → Puts (rows_text (voices_of ss)) old 0 new l
+rows-done vs ss i old mid new k l e g p q = rw (← rows-view vs ss i e g) (puts_then voices_word (flat_map row (take i vs)) old mid new 0 k l p q)
 
 -- ---- how long the texts are
 
@@ -174,14 +171,14 @@ pub rows-length-more : (vs : List Voice) (i : ℕ) → i < length vs → length 
 rows-length-more vs i h p q =
     rw (flat-more row vs i past_end h) (let l = length-append (flat_map row (take i vs)) (row (get_or vs i past_end)) in omega arith)
 
-pub rows-length-done : (vs : List Voice) (n m i : ℕ) → length vs ≡ 64 → m ≡ min n 64 → i ≤ length (take m vs) → length (take m vs) ≤ i
-    → length (flat_map row (take i (take m vs))) ≤ 57 * i → length (rows_text (voices_of (seen_first n vs))) ≤ 3655
-rows-length-done vs n m i s e h g p =
-    let f = rows-view vs n m i s e g in
-    let t = length-take m vs in
-    let q : length (flat_map row (take i (take m vs))) ≡ length (flat_map row_text (voices_of (seen_first n vs))) = ap length f in
-    let l : length (rows_text (voices_of (seen_first n vs))) ≡ 7 + length (flat_map row_text (voices_of (seen_first n vs))) =
-    length-append voices_word (flat_map row_text (voices_of (seen_first n vs))) in
+pub rows-length-done : (vs all : List Voice) (n i : ℕ) → length all ≡ 64 → map seen vs ≡ seen_first n all → i ≤ length vs → length vs ≤ i
+    → length (flat_map row (take i vs)) ≤ 57 * i → length (rows_text (voices_of (seen_first n all))) ≤ 3655
+rows-length-done vs all n i s e h g p =
+    let few : length vs ≡ length (take n all) = sym (length-map vs seen) ∙ ap length e ∙ length-map (take n all) seen in
+    let t = length-take n all in
+    let q : length (flat_map row (take i vs)) ≡ length (flat_map row_text (voices_of (seen_first n all))) = ap length (rows-view vs (seen_first n all) i e g) in
+    let l : length (rows_text (voices_of (seen_first n all))) ≡ 7 + length (flat_map row_text (voices_of (seen_first n all))) =
+    length-append voices_word (flat_map row_text (voices_of (seen_first n all))) in
     omega arith
 
 pub table_length : (vs : List model.Voice) → length (rows_text vs) ≤ 3655 → length (table_text vs) ≤ 4096

@@ -29,7 +29,8 @@ pub struct Said {
     pub count: usize,
 }
 
-// With no heap the buffer is lent: a text goes to a place, and gives the place behind it.
+// With no heap the buffer is lent: a text goes to a place, and gives the place behind it. The two are no struct: the
+// contracts of `text` are over a buffer and a place.
 
 #[tactic(auto, using(crate::proofs::Prints::puts_both, crate::proofs::Prints::part_length))]
 fn put_decimal(out: &mut [u8], at: usize, lead: &[u8], n: u64) -> usize
@@ -81,9 +82,8 @@ fn put_accepted(out: &mut [u8], reply: Reply) -> usize
         Reply::Silent(handle) => put_one(out, b"(silent ", handle),
         Reply::Kept(handle) => put_one(out, b"(kept ", handle),
         Reply::Off(found) => put_one(out, b"(off ", u64::from(found)),
-        Reply::Done => text::put_literal(out, 0, b"(done)\n"),
+        Reply::Done | Reply::Planned => text::put_literal(out, 0, b"(done)\n"),
         Reply::Released(found) => put_one(out, b"(released ", u64::from(found)),
-        Reply::Planned => text::put_literal(out, 0, b"(done)\n"),
     }
 }
 
@@ -93,7 +93,7 @@ fn put_reply(out: &mut [u8], reply: Result<Reply, Refusal>) -> usize
 {
     match reply {
         Ok(reply) => put_accepted(out, reply),
-        Err(refusal) => put_one(out, b"(refused ", refusal.number() as u64),
+        Err(refusal) => put_one(out, b"(refused ", u64::from(refusal.number())),
     }
 }
 
@@ -103,7 +103,7 @@ fn put_start(out: &mut [u8], reply: Result<(), Refusal>) -> usize
 {
     match reply {
         Ok(()) => text::put_literal(out, 0, b"(ready)\n"),
-        Err(refusal) => put_one(out, b"(refused ", refusal.number() as u64),
+        Err(refusal) => put_one(out, b"(refused ", u64::from(refusal.number())),
     }
 }
 
@@ -114,7 +114,7 @@ fn put_row(out: &mut [u8], at: usize, v: Voice) -> usize
     let env = v.env;
     let note = v.note;
     let a = put_decimal(out, at, b" (", v.handle);
-    let b = put_decimal(out, a, b" ", note.0 as u64);
+    let b = put_decimal(out, a, b" ", u64::from(note.0));
     let c = put_decimal(out, b, b" ", u64::from(v.releasing));
     let d = put_decimal(out, c, b" ", u64::from(v.sustained));
     let e = put_word(out, d, b" ", float32::to_bits(env.level));
@@ -125,7 +125,7 @@ fn put_rows(table: Table, out: &mut [u8]) -> usize
     ensures puts { Puts (rows_text (voices_in table)) out.old 0 out.new result }
     ensures len_bound { length (rows_text (voices_in table)) ≤ 3655 }
 {
-    let live = &table.voices[..table.count.min(64)];
+    let live = table.live();
     let mut next = text::put_literal(out, 0, b"(voices");
     for v in live {
         next = put_row(out, next, *v);
@@ -155,7 +155,7 @@ fn design_line(s: Session, f: DesignForm, out: &mut [u8]) -> Said
     requires { 4096 ≤ length out.old }
     ensures { DesignDoes s (design_of f) out.old out.new result }
 {
-    if let Some(_) = s {
+    if s.is_some() {
         return unread(s, out);
     }
     let made = Instrument::new(InstrumentDesign::from(f));

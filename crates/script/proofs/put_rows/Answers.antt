@@ -1,7 +1,7 @@
 use mathlib.Core.Path.{◌≡◌}
 use mathlib.Core.List.{flat_map}
 use native.Mathlib.Omega.{arith}
-use lib.ListN.{length, take}
+use lib.ListN.{length}
 use Rattle.script.proofs.Prints.{puts, puts_none, rows_more, rows-done, rows-length-more, rows-length-done}
 use Rattle.table.proofs.Sizes.{voices-long}
 use Rattle.script.proofs.put_rows.Goals as goal
@@ -17,16 +17,17 @@ loop-v-preserved c =
     let i = c.loop-v.invariant in
     let e = c.put_row-next.ensures in
     record {
-      puts = rows_more (take c.min.result c.args.table.voices) c.loop-v.v-index _ _ _ _ _ _ c.loop-v-test.true i.puts e.puts;
-      short = rows-length-more (take c.min.result c.args.table.voices) c.loop-v.v-index c.loop-v-test.true i.short e.v_len_bound;
+      puts = rows_more c.live-live.result.now c.loop-v.v-index _ _ _ _ _ _ c.loop-v-test.true i.puts e.puts;
+      short = rows-length-more c.live-live.result.now c.loop-v.v-index c.loop-v-test.true i.short e.v_len_bound;
     }
 
 pub returns : goal.returns
 returns c =
-    let long : length c.args.table.voices ≡ 64 = voices-long c.args.table c.well_formed.0 in
     let i = c.loop-v.invariant in
     let t = c.loop-v-test.false in
+    let vs = c.live-live.result.now in
+    let long : length c.args.table.voices ≡ 64 = voices-long c.args.table c.well_formed.0 in
     record {
-      puts = rows-done c.args.table.voices _ c.min.result c.loop-v.v-index _ _ _ _ _ long c.min.ensures t (puts _ _ _ _ _ c.put_literal-next.ensures) i.puts;
-      len_bound = rows-length-done c.args.table.voices _ c.min.result c.loop-v.v-index long c.min.ensures c.loop-v.auto.v-index-end t i.short;
+      puts = rows-done vs _ c.loop-v.v-index _ _ _ _ _ c.live-live.ensures t (puts _ _ _ _ _ c.put_literal-next.ensures) i.puts;
+      len_bound = rows-length-done vs c.args.table.voices _ c.loop-v.v-index long c.live-live.ensures c.loop-v.auto.v-index-end t i.short;
     }
