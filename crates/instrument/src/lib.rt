@@ -85,7 +85,7 @@ impl Instrument {
     fn empty(design: InstrumentDesign, next_handle: u64, scale: f32) -> Instrument
         ensures { (counted result ≡ true) × (view result ≡ empty_state design next_handle scale) }
     {
-        // What stands past the count means nothing.
+        // What stands past the count means nothing. No Default: nothing else asks for such a voice, nor has the Rust one.
         let voice = Voice {
             handle: 0,
             note: Note(0),

@@ -8,7 +8,8 @@ use instrument::Instrument;
 use outcome::Refusal;
 use patterns::{Page, bits, sums};
 
-// All copies of so many voices; none beyond the size of a table.
+// All copies of so many voices; none beyond the size of a table. The bounds stand at each of the four: a type of them
+// would be made and taken apart at once.
 fn rows(voices: usize, copies: u32) -> Option<usize>
     ensures { IfSome result (λ n. n ≤ 512) }
 {
