@@ -127,7 +127,7 @@ pub fn from_bits(b: u32) -> f32
     f32_from_bits_with_nan(b)
 }
 
-// The bit pattern of a float. A NaN gives 7FC00000.
+// The bit pattern of a float. A NaN gives 7FC00000; std's `to_bits` takes none.
 pub fn to_bits(x: f32) -> u32
     ensures { result ≡ to_bits binary32 x }
 {

@@ -10,6 +10,7 @@ use midi::{Cursor, Event};
 use outcome::{Outcome, Refusal};
 use wire::HostEnv;
 
+// Numbers, as C needs them: an enum and an Option cannot cross.
 #[repr(C)]
 #[derive(Clone, Copy)]
 pub struct HostEnvOutcome {
@@ -32,6 +33,7 @@ enum Kind {
 }
 
 // `kind`: 0 refused, 1 on, 2 off, 3 pedal, 4 all-off, 5 bend, 6 other, 7 end. What a kind does not name is 0.
+// Numbers here too.
 #[repr(C)]
 #[derive(Clone, Copy, Default)]
 pub struct HostEvent {
@@ -109,7 +111,8 @@ fn event_of(found: Outcome<Cursor, Option<Event>>) -> HostEvent
     }
 }
 
-// The next event from a place with a running status, and the place and status behind it.
+// The next event from a place with a running status, and the place and status behind it. They stand one by one, as C
+// passes them.
 pub fn cirstumbe_midi_step(stream: &[u8], place: usize, status: u8) -> HostEvent
     ensures { result ≡ event_of (stepped stream.now (cursor_at place status)) }
 {

@@ -68,7 +68,7 @@ pub struct HostOutcome {
 #[derive(Clone, Copy)]
 pub struct HostMixOutcome {
     pub reply: HostReply,
-    // The handles that ended, with zeros behind.
+    // The handles that ended, with zeros behind: how many stands in the reply, since a slice cannot cross.
     pub ended: [u64; 64],
     pub state: HostState,
 }

@@ -15,7 +15,8 @@ pub extern "C" fn cirstumbe_env_tick(env: HostEnv) -> HostEnvOutcome
     host::events::cirstumbe_env_tick(env)
 }
 
-// The next event from a place with a running status, and the place and status behind it.
+// The next event from a place with a running status, and the place and status behind it. They stand one by one, as C
+// passes them.
 #[unsafe(no_mangle)]
 pub extern "C" fn cirstumbe_midi_step(stream: &[u8], place: usize, status: u8) -> HostEvent
     ensures { result ≡ event_of (stepped stream.now (cursor_at place status)) }

@@ -176,6 +176,7 @@ impl Instrument {
     }
 
     // Whether a lent list has a place for each frame of every copy. In a well formed table every voice has the design's copies.
+    // The count is asked for and no invariant: check 1 has to meet any.
     fn copies_fill(&self, frames: usize, len: usize) -> bool
         requires { self.now.table.count ≤ 64 }
         ensures { result ≡ frames * (self.now.table.count * copies_of self.now.design) == len }

@@ -50,7 +50,7 @@ fn alone(word: u32) -> Words {
     [word, 0, 0, 0, 0, 0, 0, 0]
 }
 
-// The number of a refusal, 0 where nothing is refused.
+// The number of a refusal, 0 where nothing is refused: the lines hold numbers.
 fn refusal_number(reply: Result<(), Refusal>) -> u32 {
     match reply {
         Ok(()) => 0,
@@ -115,7 +115,7 @@ impl Leaf {
             s: line.float(2),
             r: line.float(3),
         };
-        let new = EnvGen::new(amp.a, amp.d, amp.s, amp.r, line.words[4]);
+        let new = EnvGen::new(amp.a, amp.d, amp.s, amp.r, line.word(4));
         self.env = new.state;
         self.amp = amp;
         self.env_words(refusal_number(new.reply))
@@ -123,7 +123,7 @@ impl Leaf {
 
     // G: gate_on, gate_off or kill, by the number that stands in the line.
     fn gate_line(&mut self, line: &Line) -> Words {
-        self.env = match line.words[0] {
+        self.env = match line.word(0) {
             0 => self.env.gate_on(),
             1 => self.env.gate_off(),
             _ => self.env.kill(),
@@ -134,7 +134,7 @@ impl Leaf {
     // T: that many ticks.
     fn tick_line(&mut self, line: &Line) -> Words {
         let mut sum = 0;
-        for _ in 0..line.words[0] {
+        for _ in 0..line.word(0) {
             self.env = self.env.tick();
             sum = mixed(sum, float32::to_bits(self.env.level));
         }
@@ -155,7 +155,7 @@ impl Leaf {
     // L: glide_block of that many frames, 1,024 at most: of more, nothing.
     fn glide_line(&mut self, rt: &impl Print, line: &Line) -> io::Result<Words> {
         let mut room = [0.0; 1024];
-        if let Some(curve) = room.get_mut(..line.words[0] as usize) {
+        if let Some(curve) = room.get_mut(..line.word(0) as usize) {
             self.copy = self.copy.glide_block(curve);
             say_curve(rt, curve)?;
         }
@@ -178,10 +178,10 @@ impl Leaf {
     // D: whether a design of a rate, max, unison, width and glide is accepted, with the last amp and modulation.
     fn design_line(&self, line: &Line) -> Words {
         let d = InstrumentDesign {
-            sample_rate: line.words[0],
-            max_voices: line.words[1],
+            sample_rate: line.word(0),
+            max_voices: line.word(1),
             mode: PlayMode::Poly,
-            unison: line.words[2],
+            unison: line.word(2),
             unison_width: line.float(3),
             amp: self.amp,
             glide: line.float(4),

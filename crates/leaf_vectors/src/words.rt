@@ -1,14 +1,12 @@
 // Words of 32 bits as eight hexadecimal digits, read from a line and written to one.
 
-ghost use Rattle.std.specs.Prelude.{◌<◌};
-
 use std::io;
 
 // A letter and seven words.
 #[derive(Drop)]
 pub struct Line {
     pub letter: u8,
-    pub words: [u32; 7],
+    words: [u32; 7],
 }
 
 // A byte that is no capital hexadecimal digit counts as 0.
@@ -32,17 +30,18 @@ impl Line {
         }
     }
 
-    pub fn float(&self, k: usize) -> f32
-        requires { k < 7 }
-    {
-        float32::from_bits(self.words[k])
+    // Word k; there is none beyond the seventh.
+    pub fn word(&self, k: usize) -> u32 {
+        self.words.get(k).copied().unwrap_or(0)
+    }
+
+    pub fn float(&self, k: usize) -> f32 {
+        float32::from_bits(self.word(k))
     }
 
     // A word's lowest byte.
-    pub fn byte(&self, k: usize) -> u8
-        requires { k < 7 }
-    {
-        (self.words[k] % 256) as u8
+    pub fn byte(&self, k: usize) -> u8 {
+        (self.word(k) % 256) as u8
     }
 }
 

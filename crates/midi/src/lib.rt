@@ -32,7 +32,7 @@ pub enum Event {
     Other,
 }
 
-// How much of a message was read. Under running status a message has no status byte of its own.
+// How much of a message was read: three states, so no Option. Under running status a message has no status byte of its own.
 #[derive(Clone, Copy)]
 enum Part {
     Nothing,
@@ -65,6 +65,7 @@ fn note_on_event(note: u8, velocity: u8) -> Event
     }
 }
 
+// By number: MIDI numbers its controllers.
 fn control_event(controller: u8, value: u8) -> Event
     ensures { result ≡ control_event controller value }
 {

@@ -26,6 +26,7 @@ pub enum Source {
     Zeros,
 }
 
+// The replay format names it by a number.
 impl From<u64> for Source {
     fn from(n: u64) -> Source {
         match n {

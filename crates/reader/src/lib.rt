@@ -54,6 +54,7 @@ fn counted(mut counts: Counts, event: Event) -> Counts
 }
 
 // The work: every event from `from` on. No iterator: the outcome that ends the walk is told too, with its cursor.
+// Nor one walk with a closure for all programs: here the counts keep a bound, elsewhere printing may fail.
 fn tally_from(stream: &[u8], from: Cursor) -> Tally
     ensures { result ≡ tallied stream.now from }
 {

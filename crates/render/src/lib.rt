@@ -15,7 +15,7 @@ use lists::fills;
 use stream::UnisonCopy;
 use voice::Voice;
 
-// The sums of one frame.
+// The sums of one frame. The buffers of a block are one for each side, as in the Rust: definitions speak of a side alone.
 #[derive(Clone, Copy)]
 struct Sums {
     left: f32,

@@ -91,6 +91,7 @@ pub enum Request {
     Show(Part),
 }
 
+// The replay format names it by a number.
 impl From<u64> for Lend {
     fn from(n: u64) -> Lend {
         match n {

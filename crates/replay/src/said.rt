@@ -21,6 +21,7 @@ pub fn start(page: &mut Page, reply: Result<(), Refusal>) {
     }
 }
 
+// As `script`, whose texts have a contract; here a page gathers them.
 fn accepted(page: &mut Page, reply: Reply) {
     match reply {
         Reply::Started {
@@ -54,6 +55,7 @@ pub fn answer(page: &mut Page, pattern: &[u8], answer: Result<u64, Refusal>) {
     }
 }
 
+// As `midi_cases`, which prints them at once; here a page gathers them.
 fn event(page: &mut Page, event: Event) {
     match event {
         Event::On(note, velocity) => page.put(b"(on D W)\n", &[u64::from(note), bits(velocity)]),

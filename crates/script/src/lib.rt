@@ -68,6 +68,7 @@ fn put_started(out: &mut [u8], handle: u64, killed: u64, taken: u64) -> usize
     text::put_literal(out, c, b")\n")
 }
 
+// The replay format prints the same words by its patterns, without a contract.
 #[tactic(auto, using(crate::proofs::Prints::puts, crate::proofs::Prints::flag))]
 fn put_accepted(out: &mut [u8], reply: Reply) -> usize
     ensures puts { Puts (reply_text (reply_of (Ok reply))) out.old 0 out.new result }
@@ -141,6 +142,8 @@ fn put_table(table: Table, out: &mut [u8]) -> usize
     text::put_literal(out, next, b")\n")
 }
 
+// This and the lines below ask for the room that `line` has tested. No array type: `line` takes any buffer, and what stands
+// behind an array cut out of it would have to be told anew.
 #[tactic(auto, using(crate::proofs::Prints::puts, crate::proofs::Prints::printed))]
 fn unread(s: Session, out: &mut [u8]) -> Said
     requires { 4096 ≤ length out.old }
