@@ -436,8 +436,7 @@ impl Instrument {
         if !self.well_formed() {
             return Err(Refusal::Malformed);
         }
-        let voices = &self.table.voices[..];
-        Ok(self.table.count.min(voices.len()))
+        Ok(self.table.live().len())
     }
 
     // Some voice of a note that is not releasing.

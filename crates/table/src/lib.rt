@@ -93,20 +93,12 @@ impl Table {
         ensures { (t : _) → Tells (F.post test) t
             → result ≡ place_in (lowest no_voice quieter_of t (voices_in self.now)) (voices_in self.now) }
     {
-        let voices = self.live();
-        let mut best: Option<usize> = None;
-        for (i, v) in voices.iter().enumerate() {
-            if test(*v) {
-                let below = match best {
-                    Some(k) => quieter(*v, voices[k]),
-                    None => true,
-                };
-                if below {
-                    best = Some(i);
-                }
-            }
-        }
-        best
+        self.live()
+            .iter()
+            .enumerate()
+            .filter(|(_, v)| test(**v))
+            .reduce(|a, b| if quieter(*b.1, *a.1) { b } else { a })
+            .map(|(place, _)| place)
     }
 
     // The quietest among those not releasing.

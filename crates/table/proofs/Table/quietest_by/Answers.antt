@@ -1,45 +1,15 @@
-use mathlib.Core.Path.{◌≡◌, sym, ◌∙◌}
-use mathlib.Core.Bool.{true≢false}
-use native.Mathlib.Omega.{arith}
-use lib.ListN.{length}
-use Rattle.table.proofs.Searches.{best-fails, best-here, best-stays, best-end}
+use borrow.Author.Rules.{rules}
+use Rattle.std.proofs.lemmas.Iterator.{YieldsList-from_slice}
+use Rattle.std.proofs.lemmas.Iterator.Consumers.{YieldsList-from_filter, YieldsList-from_enumerate}
+use Rattle.voice.specs.View.{shown}
+use Rattle.table.proofs.Searches.{quietest-found, reduced, kept}
 use Rattle.table.proofs.Table.quietest_by.Goals as goal
-use Rattle.table.proofs.Table.quietest_by.Goals.{then-test+then-below, in-Some, in-None, then-test+else-below, else-test}
-
-pub loop-i-preserved : goal.loop-i-preserved
-loop-i-preserved g c =
-    let vs = c.live-voices.result.now in
-    let i = c.loop-i.i in
-    let best = c.loop-i.best in
-    let h = c.loop-i-test.true in
-    record {
-      within = elim c.if-test.branch [
-        | then-test+then-below w ↦ rw w.best-is h
-        | then-test+else-below w ↦ elim w.match-best.branch [
-          | in-Some w' ↦ rw (w.best-is, w'.best-is) (rw w'.in-Some.is at c.loop-i.invariant.within)
-          | in-None w' ↦ absurd (true≢false (sym w'.below-is ∙ w.if-below.false))
-        ]
-        | else-test w ↦ rw w.best-is c.loop-i.invariant.within
-      ];
-      best = λ t d.
-          let a = c.loop-i.invariant.best t d in
-          let says = d _ _ c.test.ensures in
-          elim c.if-test.branch [
-            | then-test+then-below w ↦ rw w.best-is (best-here t vs i h (sym says ∙ w.if-test.true) best (elim w.match-best.branch [
-              | in-Some w' ↦ rw w'.in-Some.is (sym w'.quieter-below.ensures ∙ sym w'.below-is ∙ w.if-below.true)
-              | in-None w' ↦ rw w'.in-None.is tt
-            ]) a)
-            | then-test+else-below w ↦ elim w.match-best.branch [
-              | in-Some w' ↦ rw (w.best-is, w'.best-is)
-                  (best-stays t vs i h (sym says ∙ w.if-test.true) best w'.in-Some.k w'.in-Some.is (sym w'.quieter-below.ensures ∙ sym w'.below-is ∙ w.if-below.false) a)
-              | in-None w' ↦ absurd (true≢false (sym w'.below-is ∙ w.if-below.false))
-            ]
-            | else-test w ↦ rw w.best-is (best-fails t vs i h best (sym says ∙ w.if-test.false) a)
-          ];
-    }
 
 pub returns : goal.returns
 returns g c = λ p d.
-    let vs = c.live-voices.result.now in
-    let e : c.loop-i.i ≡ length vs = omega arith in
-    best-end p vs c.args.self.now c.live-voices.ensures c.loop-i.best (rw e at (c.loop-i.invariant.best p d))
+    let vs = c.live.result.now in
+    quietest-found p vs c.args.self.now c.live.ensures c.reduce.result
+    (reduced _ _ (kept p vs) _ (λ a x r q k. search rules) c.reduce.result c.reduce.ensures.ran
+    (YieldsList-from_filter _ (λ w. p (shown w.1)) (YieldsList-from_enumerate (YieldsList-from_slice vs cc) cc) c.filter.ensures.closure
+    (λ x b q k. let s = k.shows in let e = k.called in rw (← s) (search (rules, d)))))
+    c.map.result c.map.ensures.cases (λ x n k. search rules)
