@@ -1,15 +1,17 @@
 -- A voice whose copies no longer move: it is its own later self, and the curve of each copy is one number.
-use mathlib.Core.Path.{◌≡◌, refl, ap, sym, ◌∙◌}
+use mathlib.Core.Path.{◌≡◌, refl, ap, sym, subst, ◌∙◌}
 use mathlib.Core.Bool.{Bool, true, false, false≢true}
 use mathlib.Core.List.{List, [], ◌∷◌, ◌++◌, map, flat_map}
 use Prim.Native.Nat.{ℕ, zero, suc, ◌+◌, ◌-◌, ◌*◌, ◌≤◌, ◌<◌, min}
 use native.Mathlib.Nat.{mul-le-mul_left}
 use native.Mathlib.Omega.{arith}
 use lib.Ieee.{Float}
-use lib.ListN.{length, take, drop, get_or, replicate, length-take, length-replicate}
+use lib.ListN.{length, take, drop, get_or, replicate, length-take, length-replicate, take-append-drop}
+use lib.Seq.{take_all, take_at, get_or-take}
+use Rattle.std.specs.Prelude.{Option, Some, None, MatchOption, unwrap_or}
 use Rattle.std.specs.Bool.{MatchBool}
 use Rattle.std.specs.List.{All, AllWithin, HoldsAt}
-use Rattle.lists.specs.Parts.{head-same, tail-same, part-size, flat-more}
+use Rattle.lists.specs.Parts.{head-same, tail-same, part-size, flat-more, length-flat}
 use Rattle.lists.specs.Prefix.{take_min, mapped, length-mapped, take-mapped}
 use Rattle.stream.specs.declared.UnisonCopy.{UnisonCopy}
 use Rattle.stream.specs.Pitch.{pitched, glide_step, stepped, heard, glided, curve}
@@ -49,6 +51,25 @@ flat-all : (n : ℕ) (cs : List UnisonCopy) → map (glided 1) cs ≡ cs → fla
 unfolding flat_map glided
 flat-all n [] e = refl
 flat-all n (c ∷ cs) e = rw (stays-flat n c (head-same e), flat-all n cs (tail-same e))
+
+-- how many stand at the head, as the code finds the first that moves
+pub head-stands : (cs : List UnisonCopy) (r : Option ℕ) → MatchOption r (AllWithin Still cs 0 (length cs)) (λ (i : ℕ). (i < length cs) × HoldsAt (λ _. Unit {0}) cs i × AllWithin Still cs 0 i)
+    → (unwrap_or r (length cs) ≤ length cs) × ((k : ℕ) → map (glided k) (take (unwrap_or r (length cs)) cs) ≡ take (unwrap_or r (length cs)) cs)
+head-stands cs None m = (omega arith, λ k. rw (take_all (length cs) cs (omega arith)) (stand-glided k cs (λ j d l. m j d (omega arith) l)))
+head-stands cs (Some i) m = (
+  omega (arith, m.0),
+  λ k. stand-glided k (take i cs) (λ j d l. let z = length-take i cs in let h : j < i = omega arith in subst Still (sym (get_or-take i cs j d h)) (m.2 j d (omega arith) h)),
+)
+
+-- they are as they will be, and have written their numbers
+pub head-glided : (n m : ℕ) (cs : List UnisonCopy) (out ys : List Float) → m ≤ length cs → ((k : ℕ) → map (glided k) (take m cs) ≡ take m cs)
+    → ys ≡ flat_map (flat n) (take m cs) → (cs ≡ mapped (glided n) m cs) × (take (n * m) (ys ++ drop (n * m) out) ≡ flat_map (curve n) (take m cs))
+head-glided n m cs out ys h e w =
+    let many : length (take m cs) ≡ m = simp length-take (omega arith) in
+    let size : length ys ≡ n * m = ap length w ∙ length-flat (flat n) n (λ c. length-replicate n (heard c)) (take m cs) ∙ ap (◌*◌ n) many in (
+      sym (rw (e n) (take-append-drop m cs)),
+      take_at ys (drop (n * m) out) (n * m) size ∙ w ∙ flat-all n (take m cs) (e 1),
+    )
 
 -- a voice stands where its copies do
 module _ (v : Voice) where

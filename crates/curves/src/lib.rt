@@ -3,8 +3,8 @@
 #![tactic(auto)]
 
 ghost use Rattle.std.specs.Prelude.{◌≡◌, true, map, ◌+◌, ◌*◌, ◌≤◌, ◌<◌, length, take, replicate, IfSome};
-ghost use Rattle.stream.specs.Pitch.{glide_step, stepped, heard as heard_of, GlidedOver};
-ghost use Rattle.curves.specs.Glides.{column, GlidedCopies, GlidedVoice, StandsAs, StandingCurve};
+ghost use Rattle.stream.specs.Pitch.{glide_step, stepped, heard as heard_of, glided, GlidedOver};
+ghost use Rattle.curves.specs.Glides.{column, flat_curve, GlidedCopies, GlidedVoice, StandsAs, StandingCurve};
 
 use lists::fills;
 use stream::UnisonCopy;
@@ -50,6 +50,28 @@ fn hold(x: f32, out: &mut [f32])
 {
     for place in out.iter_mut() {
         *place = x;
+    }
+}
+
+// How many copies at the head stand.
+fn standing_first(copies: &[UnisonCopy]) -> usize
+    ensures { (result ≤ length copies.now)
+        × ((k : _) → map (glided k) (take result copies.now) ≡ take result copies.now) }
+{
+    copies
+        .iter()
+        .position(|c| !steady(*c))
+        .unwrap_or(copies.len())
+}
+
+// One number of each copy, in every place of its part.
+fn write_flat(copies: &[UnisonCopy], frames: usize, curve: &mut [f32])
+    requires { frames * length copies.now ≡ length curve.old }
+    ensures { curve.new ≡ flat_curve frames copies.now }
+{
+    // The parts by index: of what goes through `chunks_exact_mut` a proof knows nothing.
+    for (i, copy) in copies.iter().enumerate() {
+        hold(heard(*copy), &mut curve[frames * i..frames * (i + 1)]);
     }
 }
 
@@ -118,8 +140,11 @@ fn glide_copies(copies: &mut [UnisonCopy], frames: usize, curve: &mut [f32])
     ensures { GlidedCopies frames copies.old copies.new curve.new }
 {
     let n = copies.len();
+    // Those that stand at the head first, so that those that move behind them go by four.
+    let head = standing_first(copies);
+    write_flat(&copies[..head], frames, &mut curve[..frames * head]);
     // The parts by index: of what goes through `chunks_mut` a proof knows nothing.
-    for i in (0..n).step_by(4) {
+    for i in (head..n).step_by(4) {
         let end = n.min(i + 4);
         glide_few(
             &mut copies[i..end],
@@ -161,8 +186,5 @@ pub fn write_standing(v: Voice, frames: usize, curve: &mut [f32])
     if !fills(frames, n, curve.len()) {
         return;
     }
-    // The parts by index: of what goes through `chunks_exact_mut` a proof knows nothing.
-    for (i, copy) in v.copies[..n].iter().enumerate() {
-        hold(heard(*copy), &mut curve[frames * i..frames * (i + 1)]);
-    }
+    write_flat(&v.copies[..n], frames, curve);
 }

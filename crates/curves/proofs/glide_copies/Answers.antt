@@ -1,18 +1,26 @@
-use mathlib.Core.Path.{◌≡◌, refl, sym, ◌∙◌}
-use mathlib.Core.List.{flat_map}
+use mathlib.Core.Path.{◌≡◌, sym, ◌∙◌}
 use Prim.Native.Nat.{◌+◌, ◌-◌, ◌*◌, ◌≤◌, min}
-use native.Mathlib.Nat.{mul-zero, mul-le-mul_left, mul-add}
+use native.Mathlib.Nat.{mul-le-mul_left, mul-add}
 use native.Mathlib.Omega.{arith}
-use lib.ListN.{length, take, drop}
+use lib.ListN.{length, take, drop, length-take}
 use Rattle.lists.specs.Parts.{part-size}
 use Rattle.curves.proofs.Rows.{few-more, few-last}
+use Rattle.curves.proofs.Standing.{head-glided}
 use Rattle.curves.proofs.glide_copies.Goals as goal
 
+pub write_flat-requires : goal.write_flat-requires
+write_flat-requires c =
+    let h = c.standing_first-head.ensures in
+    let room = mul-le-mul_left c.args.frames h.0 in
+    let many : length (take c.standing_first-head.result c.args.copies.now) ≡ c.standing_first-head.result = simp length-take (omega (arith, h.0)) in
+    rw many (simp length-take (omega (arith, room, c.requires)))
+
 pub loop-i-init : goal.loop-i-init
-unfolding flat_map
 loop-i-init c =
-    let none : min (length c.args.copies.now) 0 ≡ 0 = omega arith in
-    rw (none, mul-zero) (refl, refl)
+    let m = c.standing_first-head.result in
+    let h = c.standing_first-head.ensures in
+    let at : min (length c.args.copies.now) m ≡ m = omega (arith, h.0) in
+    rw at (head-glided c.args.frames m c.args.copies.now c.args.curve.now _ h.0 h.1 c.write_flat.ensures)
 
 pub glide_few-requires : goal.glide_few-requires
 glide_few-requires c =
