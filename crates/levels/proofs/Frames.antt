@@ -5,8 +5,8 @@ use Prim.Native.Nat.{ℕ, zero, suc, ◌+◌, ◌-◌, ◌≤◌, ◌<◌, min}
 use native.Mathlib.Omega.{arith}
 use native.Mathlib.Numerals.{add-one}
 use native.Mathlib.Nat.{zero-add, suc-add}
-use lib.ListN.{length, set, take, drop, replicate, length-set, length-take}
-use lib.Seq.{take-suc-set, drop-set-lt, take-add, drop-drop}
+use lib.ListN.{length, set, take, drop, replicate, length-set, length-take, length-drop, length-append, length-replicate}
+use lib.Seq.{take_all, take-suc-set, drop-set-lt, take-add, drop-drop}
 use Rattle.std.proofs.Common.{take_at}
 use Rattle.std.proofs.lemmas.List.{take-append-drop, take-append-le, drop-append-le, drop_at}
 use lib.Ieee.{Float}
@@ -17,7 +17,7 @@ use Rattle.envelope.specs.Ticks.{ticked}
 use Rattle.model.specs.Voices.{aged}
 use Rattle.model.specs.Mix.{levels}
 use Rattle.levels.specs.declared.Loudness.{Loudness}
-use Rattle.levels.specs.Filled.{FilledAs}
+use Rattle.levels.specs.Filled.{FilledAll, FilledAs}
 use Rattle.levels.specs.Runs.{loud, Ran}
 
 -- the frames of a block in two parts
@@ -79,13 +79,24 @@ module _ (by : Loudness) where
         within = let s = p.size in omega arith;
       }
 
-  -- all the frames done, from the first on
-  pub filled : {e w : EnvGen} {n m : ℕ} {buf : List Float} → n ≡ min m 64
-      → Ran e by (replicate 64 +0) buf w n → FilledAs e by.gain by.trem m (record { env = w; levels = buf })
-  filled {e} {w} {n} {m} {buf} h d =
+  -- all the frames done
+  pub filled_all : {e w : EnvGen} {n : ℕ} {old buf : List Float} → length old ≤ n → Ran e by old buf w n → FilledAll e by.gain by.trem old buf w
+  filled_all {e} {w} {n} {old} {buf} h d =
+      let all : n ≡ length old = let i = d.within in omega arith in
+      let size : length buf ≤ length old = let s = d.size in omega arith in
+      record { env = rw all at d.env; numbers = sym (take_all (length old) buf size) ∙ rw all at d.numbers }
+
+-- the first of 64 numbers, and zeros behind them
+module _ (gain trem : Float) where
+  pub filled : {e w : EnvGen} {n m : ℕ} {part : List Float} → n ≡ min m 64 → length part ≡ length (take n (replicate 64 +0))
+      → FilledAll e gain trem (take n (replicate 64 +0)) part w
+      → FilledAs e gain trem m (record { env = w; levels = part ++ drop n (replicate 64 +0) })
+  filled {e} {w} {n} {m} {part} h size d =
+      let all : length (take n (replicate 64 +0)) ≡ n = simp (length-take, length-replicate) (omega arith) in
+      let many : length part ≡ n = size ∙ all in
       record {
-        env = rw h at d.env;
-        numbers = rw h at d.numbers;
-        rest = rw h at (d.rest ∙ drop-replicate n 64 +0);
-        size = d.size;
+        env = rw (all, h) at d.env;
+        numbers = rw (← h) (take_at part (drop n (replicate 64 +0)) n many ∙ rw all at d.numbers);
+        rest = rw (← h) (drop_at part (drop n (replicate 64 +0)) n many ∙ drop-replicate n 64 +0);
+        size = simp (length-append, many, length-drop, length-replicate) (omega arith);
       }

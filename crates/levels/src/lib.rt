@@ -6,7 +6,7 @@
 ghost use Rattle.std.specs.Prelude.{◌≡◌, false};
 ghost use Rattle.std.specs.Float.Ieee.{le};
 ghost use Rattle.float32.specs.Numbers.{zero};
-ghost use Rattle.levels.specs.Filled.{FilledAs};
+ghost use Rattle.levels.specs.Filled.{FilledAll, FilledAs};
 ghost use Rattle.levels.specs.Runs.{loud, RunAs, slope_of, Steps};
 
 use envelope::{EnvGen, Stage};
@@ -110,13 +110,12 @@ fn run_stage(e: EnvGen, by: Loudness, frames: &mut [f32]) -> Run
     }
 }
 
-// A run, then the tick that ends it, until m frames are filled.
-pub fn fill(e: EnvGen, gain: f32, trem: f32, m: usize) -> Filled
-    ensures { FilledAs e gain trem m result }
+// A run, then the tick that ends it, until all the frames are filled. Gives the envelope behind them.
+pub fn fill_all(e: EnvGen, gain: f32, trem: f32, levels: &mut [f32]) -> EnvGen
+    ensures { FilledAll e gain trem levels.old levels.new result }
 {
     let by = Loudness { gain, trem };
-    let n = m.min(64);
-    let mut levels = [0.0f32; 64];
+    let n = levels.len();
     let mut env = e;
     let mut f: usize = 0;
     // No `for`: a turn goes on by as many frames as its run filled.
@@ -130,5 +129,14 @@ pub fn fill(e: EnvGen, gain: f32, trem: f32, m: usize) -> Filled
             f += 1;
         }
     }
+    env
+}
+
+// The same into numbers of its own, for m frames.
+pub fn fill(e: EnvGen, gain: f32, trem: f32, m: usize) -> Filled
+    ensures { FilledAs e gain trem m result }
+{
+    let mut levels = [0.0f32; 64];
+    let env = fill_all(e, gain, trem, &mut levels[..m.min(64)]);
     Filled { env, levels }
 }

@@ -1,12 +1,13 @@
 -- A voice goes through a block in parts: the parts make the whole. And the first frames of a mix that has places for more.
 use mathlib.Core.Path.{◌≡◌, refl, ap, sym, ◌∙◌}
 use mathlib.Core.List.{List, [], ◌∷◌, ◌++◌}
-use Prim.Native.Nat.{ℕ, zero, suc, ◌+◌, ◌-◌, ◌*◌, ◌≤◌, min}
+use Prim.Native.Nat.{ℕ, zero, suc, ◌+◌, ◌-◌, ◌*◌, ◌≤◌}
 use native.Mathlib.Nat.{mul-zero, mul-suc}
 use native.Mathlib.Omega.{arith}
 use lib.Ieee.{Float, binary32, add, mul}
-use lib.ListN.{length, take, drop, replicate, take-append-drop}
+use lib.ListN.{length, take, drop, replicate, take-append-drop, length-take}
 use lib.Seq.{take-take, take_all, take-add, drop-drop}
+use Rattle.std.proofs.Common.{take_at}
 use Rattle.lists.specs.Prefix.{fold, fold-see}
 use Rattle.lists.specs.Parts.{part_length, part-size, part-front, part-take, part-replicate, rest-on, part-rest}
 use Rattle.float32.specs.Numbers.{zero as +0}
@@ -16,8 +17,7 @@ use Rattle.stream.specs.declared.UnisonCopy.{UnisonCopy}
 use Rattle.model.specs.Types as model
 use Rattle.model.specs.Voices.{aged}
 use Rattle.model.specs.Mix.{levels, add_side, Mixing, mixing, side_copy, side_voice, side_mix, on_left, on_right}
-use Rattle.levels.specs.declared.Filled.{Filled}
-use Rattle.levels.specs.Filled.{FilledAs}
+use Rattle.levels.specs.Filled.{FilledAll}
 use Rattle.levels.proofs.Frames.{aged-add}
 use Rattle.voice.specs.declared.Voice.{Voice}
 use Rattle.voice.specs.View.{shown}
@@ -176,20 +176,22 @@ module _ (n : ℕ) (trem : Float) (xs : List Float) (v : model.Voice) (left₀ r
     record { on_left = added-all on_left n trem xs v left₀ a left all w.on_left; on_right = added-all on_right n trem xs v right₀ a right all w.on_right },
   )
 
--- as the code goes on: by the levels that `fill` gives, over the copies that count
+-- as the code goes on: by the levels that `fill_all` leaves of 64 numbers, over the copies that count
 module _ (v : Voice) (trem : Float) (xs left₀ right₀ : List Float) where
-  pub went_on : (a b k : ℕ) (e : EnvGen) (r : Filled) (left right new_left new_right : List Float) → a ≤ b → b ≤ a + 64 → b ≤ length left₀
-      → SidesFit v xs left₀ right₀ → k ≡ length (shown v).copies → FilledAs e v.gain trem (b - a) r
+  pub went_on : (a b k : ℕ) (e next : EnvGen) (es part left right new_left new_right : List Float) → a ≤ b → b ≤ a + 64 → b ≤ length left₀
+      → SidesFit v xs left₀ right₀ → k ≡ length (shown v).copies
+      → length es ≡ 64 → length part ≡ length (take (b - a) es) → FilledAll e v.gain trem (take (b - a) es) part next
       → length new_left ≡ length (take (b - a) (drop a left)) → length new_right ≡ length (take (b - a) (drop a right))
-      → BothSides (λ (side : UnisonCopy → Float) sums. (fold (part_copy side (length left₀) (length (take (b - a) r.levels)) (take (b - a) r.levels)) (mixing (drop a xs) sums) (take k v.copies)).sums)
+      → BothSides (λ (side : UnisonCopy → Float) sums. (fold (part_copy side (length left₀) (length (take (b - a) (part ++ drop (b - a) es))) (take (b - a) (part ++ drop (b - a) es))) (mixing (drop a xs) sums) (take k v.copies)).sums)
       on_left on_right (take (b - a) (drop a left)) (take (b - a) (drop a right)) new_left new_right
       → Went (length left₀) trem xs (shown v) left₀ right₀ a e left right
-      → Went (length left₀) trem xs (shown v) left₀ right₀ b r.env (take a left ++ (new_left ++ drop (b - a) (drop a left))) (take a right ++ (new_right ++ drop (b - a) (drop a right)))
+      → Went (length left₀) trem xs (shown v) left₀ right₀ b next (take a left ++ (new_left ++ drop (b - a) (drop a left))) (take a right ++ (new_right ++ drop (b - a) (drop a right)))
   unfolding shown
-  went_on a b k e r left right new_left new_right before short h fits counts f size_left size_right added w =
-      let m : min (b - a) 64 ≡ b - a = omega arith in
-      went_more (length left₀) trem xs (shown v) left₀ right₀ a b e r.env (take (b - a) r.levels) left right new_left new_right before h refl fits.sides
-      (rw m at f.env) (rw m at f.numbers) size_left size_right (rw (copies-shown v k counts) at added) w
+  went_on a b k e next es part left right new_left new_right before short h fits counts room many f size_left size_right added w =
+      let m : length (take (b - a) es) ≡ b - a = simp (length-take, room) (omega arith) in
+      let here : take (b - a) (part ++ drop (b - a) es) ≡ part = take_at part (drop (b - a) es) (b - a) (many ∙ m) in
+      went_more (length left₀) trem xs (shown v) left₀ right₀ a b e next part left right new_left new_right before h refl fits.sides
+      (rw m at f.env) (rw m at f.numbers) size_left size_right (rw (copies-shown v k counts, here) at added) w
 
 -- ---- the voices of a table
 

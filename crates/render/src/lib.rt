@@ -124,19 +124,20 @@ fn add_parts(v: Voice, trem: f32, samples: &[f32], left: &mut [f32], right: &mut
     let n = left.len();
     let k = v.copies_shown();
     let mut e = v.env;
+    // Once for the parts, and lent to each: the levels of a part are new in all its frames.
+    let mut levels = [0.0f32; 64];
     for a in (0..n).step_by(64) {
         let end = n.min(a + 64);
-        let filled = levels::fill(e, v.gain, trem, end - a);
+        e = levels::fill_all(e, v.gain, trem, &mut levels[..end - a]);
         add_copies(
             &v.copies[..k],
             samples,
             n,
             a,
-            &filled.levels[..end - a],
+            &levels[..end - a],
             &mut left[a..end],
             &mut right[a..end],
         );
-        e = filled.env;
     }
     e
 }
@@ -174,10 +175,11 @@ pub fn add_voice(
 
 // The voice with another envelope.
 #[tactic(auto, unfolding(crate::specs::Mixes::with_env))]
-pub fn with_env(v: Voice, env: EnvGen) -> Voice
+pub fn with_env(mut v: Voice, env: EnvGen) -> Voice
     ensures { result ≡ with_env v env }
 {
-    Voice { env, ..v }
+    v.env = env;
+    v
 }
 
 // The sums of each side, left before right. By index: of what goes through `chunks_exact_mut` a proof knows nothing.

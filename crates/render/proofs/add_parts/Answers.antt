@@ -21,8 +21,8 @@ loop-a-preserved c =
     let next : min (length x.left.now) (l.a + 64) ≡ c.min-end.result = omega arith in
     let e = c.add_copies in
     rw next (
-    went_on x.v x.trem x.samples.now x.left.now x.right.now l.a _ _ l.e _ l.left l.right _ _ (omega arith) (omega arith) (omega arith)
-    c.requires c.copies_shown-k.ensures.1 c.fill-filled.ensures e.auto.left e.auto.right e.ensures (rw at at l.invariant)
+    went_on x.v x.trem x.samples.now x.left.now x.right.now l.a _ _ l.e _ l.levels _ l.left l.right _ _ (omega arith) (omega arith) (omega arith)
+    c.requires c.copies_shown-k.ensures.1 c.min-end.array_long c.fill_all-e.auto.levels c.fill_all-e.ensures e.auto.left e.auto.right e.ensures (rw at at l.invariant)
     )
 
 pub returns : goal.returns
@@ -39,6 +39,6 @@ returns-2 c =
     let at : min (length x.left.now) l.a ≡ l.a = omega arith in
     let e = c.add_copies in
     went-all _ _ _ _ _ _ _ _ _ _ (omega arith) (
-    went_on x.v x.trem x.samples.now x.left.now x.right.now l.a c.min-end.result _ l.e _ l.left l.right _ _ (omega arith) (omega arith) (omega arith)
-    c.requires c.copies_shown-k.ensures.1 c.fill-filled.ensures e.auto.left e.auto.right e.ensures (rw at at l.invariant)
+    went_on x.v x.trem x.samples.now x.left.now x.right.now l.a c.min-end.result _ l.e _ l.levels _ l.left l.right _ _ (omega arith) (omega arith) (omega arith)
+    c.requires c.copies_shown-k.ensures.1 c.min-end.array_long c.fill_all-e.auto.levels c.fill_all-e.ensures e.auto.left e.auto.right e.ensures (rw at at l.invariant)
     )

@@ -1,11 +1,9 @@
 use Prim.Native.Nat.{◌≤◌, ◌-◌}
-use lib.ListN.{replicate}
-use Rattle.float32.specs.Numbers.{zero}
 use Rattle.levels.specs.Runs.{Ran}
-use Rattle.levels.proofs.fill.Given as goal
+use Rattle.levels.proofs.fill_all.Given as goal
 
 abbrev pub invariant-loop-f : goal.invariant-loop-f
-invariant-loop-f l = (l.f ≤ l.n) × Ran l.fn.e l.by (replicate 64 zero) l.levels l.env l.f
+invariant-loop-f l = (l.f ≤ l.n) × Ran l.fn.e l.by l.initial.levels l.levels l.env l.f
 
 abbrev pub decreases-loop-f : goal.decreases-loop-f
 decreases-loop-f l = l.n - l.f
