@@ -123,14 +123,16 @@ fn add_parts(v: Voice, trem: f32, samples: &[f32], left: &mut [f32], right: &mut
 {
     let n = left.len();
     let k = v.copies_shown();
+    // Apart from the voice: a part of what lies in it keeps the whole voice in memory.
+    let copies = v.copies;
     let mut e = v.env;
-    // Once for the parts, and lent to each: the levels of a part are new in all its frames.
+    // Once for all the parts: each part writes its levels over those of the part before.
     let mut levels = [0.0f32; 64];
     for a in (0..n).step_by(64) {
         let end = n.min(a + 64);
         e = levels::fill_all(e, v.gain, trem, &mut levels[..end - a]);
         add_copies(
-            &v.copies[..k],
+            &copies[..k],
             samples,
             n,
             a,
