@@ -2,28 +2,25 @@
 
 use std::io;
 
-// A letter and seven words.
+// A letter, and seven words: eight digits each, and the byte behind them. A word is read when it is asked for.
 #[derive(Drop)]
-pub struct Line {
+pub struct Line<'a> {
     pub letter: u8,
-    words: [u32; 7],
+    words: &'a [[u8; 9]],
 }
 
 // A byte that is no capital hexadecimal digit counts as 0.
-fn word(digits: &[u8]) -> u32 {
-    digits.iter().fold(0u32, |value, byte| {
+fn word(digits: &[u8; 9]) -> u32 {
+    digits[..8].iter().fold(0u32, |value, byte| {
         let digit = text::hex_value(*byte).unwrap_or(0);
         value.wrapping_mul(16).wrapping_add(u32::from(digit))
     })
 }
 
-impl Line {
+impl Line<'_> {
     // Behind the letter each word has a space before it.
-    pub fn read(line: &[u8; 65]) -> Line {
-        let mut words = [0; 7];
-        for (value, digits) in words.iter_mut().zip(line[2..].chunks(9)) {
-            *value = word(digits.get(..8).unwrap_or(&[]));
-        }
+    pub fn read(line: &[u8; 65]) -> Line<'_> {
+        let (words, _) = line[2..].as_chunks::<9>();
         Line {
             letter: line[0],
             words,
@@ -32,7 +29,7 @@ impl Line {
 
     // Word k; there is none beyond the seventh.
     pub fn word(&self, k: usize) -> u32 {
-        self.words.get(k).copied().unwrap_or(0)
+        self.words.get(k).map_or(0, word)
     }
 
     pub fn float(&self, k: usize) -> f32 {
@@ -45,9 +42,26 @@ impl Line {
     }
 }
 
-// Writes a line: a letter and eight words.
+const GLYPHS: [u8; 16] = *b"0123456789ABCDEF";
+
+// From the last digit to the first.
+// By hand: lines are nearly all that the program does, and the library's printing takes several times as long for one.
+fn spell(word: u32, digits: &mut [u8]) {
+    let mut rest = word;
+    for digit in digits.iter_mut().rev() {
+        *digit = GLYPHS[(rest % 16) as usize];
+        rest /= 16;
+    }
+}
+
+// Writes a line: a letter and eight words, each with a space before it.
 pub fn say(rt: &impl Print, letter: u8, words: [u32; 8]) -> io::Result<()> {
-    let letter = char::from(letter);
-    let [a, b, c, d, e, f, g, h] = words;
-    println!(rt; "{letter} {a:08X} {b:08X} {c:08X} {d:08X} {e:08X} {f:08X} {g:08X} {h:08X}")
+    let mut line = [b' '; 74];
+    line[0] = letter;
+    let (rooms, _) = line[1..].as_chunks_mut::<9>();
+    for (room, word) in rooms.iter_mut().zip(&words) {
+        spell(*word, &mut room[1..]);
+    }
+    line[73] = b'\n';
+    rt.write_all(&line)
 }
