@@ -24,7 +24,7 @@ fn end_line(rt: &impl Print, line: &[u8]) -> io::Result<()> {
     let mut room = [0; 100];
     match parse::parse_line(line, &mut room) {
         Some((cursor, stream)) => steps(rt, stream, cursor),
-        None => println!(rt; "(unread)"),
+        None => rt.write_all(b"(unread)\n"),
     }
 }
 
