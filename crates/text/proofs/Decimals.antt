@@ -18,9 +18,9 @@ use Rattle.std.proofs.lemmas.Str.{digit_value_digit, IsUtf8-from_ascii}
 use Rattle.std.proofs.lemmas.Fmt.{IsAscii-from_digits}
 use Rattle.std.proofs.lemmas.Int.Digits.{digits_value_push}
 use Rattle.text.specs.Text.{figure, figures, decimal_text, NoDigit}
-use Rattle.text.specs.Read.{DecimalAs}
+use Rattle.text.specs.Read.{Got, DecimalAs}
 use Rattle.lists.specs.Parts.{head-same}
-use Rattle.text.proofs.Spelt.{Spelt, spelt-append, spelt-same, none-empty}
+use Rattle.text.proofs.Spelt.{Spelt, spelt-append, begun, spelt-same, none-empty}
 use Rattle.text.proofs.Once.{some-same, read-none, read-some}
 
 -- division may be allowed more often than is needed
@@ -115,6 +115,26 @@ leads (suc k) n rest more h p e = by (ltb n 10) refl (leads k (n / 10) (figure (
         let f : (figures k (n / 10) ++ (figure (n % 10) ∷ [])) ++ rest ≡ 48 ∷ more = rw t at e in
         ih (omega arith) (omega arith) (sym (append_assoc (figures k (n / 10)) (figure (n % 10) ∷ []) rest) ∙ f)
 
+-- 10 to the k
+abbrev pub tenfold : ℕ → ℕ
+tenfold zero = 1
+tenfold (suc k) = 10 * tenfold k
+
+-- k digits say what is below 10 to the k
+figures-few : (j k n : ℕ) → n < tenfold (suc j) → length (figures k n) ≤ suc j
+figures-few j zero n h = omega arith
+figures-few j (suc k) n h = by j h (ltb n 10) refl (λ i q. figures-few i k (n / 10) q)
+  where
+    by : (j : ℕ) → n < tenfold (suc j) → (b : Bool) → ltb n 10 ≡ b → ((i : ℕ) → n / 10 < tenfold (suc i) → length (figures k (n / 10)) ≤ suc i)
+        → length (figures (suc k) n) ≤ suc j
+    by j h true e ih = rw e (omega arith)
+    by zero h false e ih = let q : 10 ≤ n = ltb-false _ _ e in let z : ⊥ = omega arith in absurd z
+    by (suc j) h false e ih = let s = ih j (omega arith) in rw (e, length-append) (omega arith)
+
+text-few : (n : ℕ) → n < 2 ^ 64 → length (decimal_text n) ≤ 20
+unfolding decimal_text
+text-few n h = let t : tenfold 20 ≡ 100000000000000000000 = refl in figures-few 19 n n (omega arith)
+
 pub text-leads : (n : ℕ) (rest more : List ℕ) → 1 ≤ n → decimal_text n ++ rest ≡ 48 ∷ more → ⊥
 unfolding decimal_text
 text-leads n rest more p e = leads n n rest more (omega arith) p e
@@ -169,33 +189,49 @@ no-plus (x ∷ xs) s = rw (ne_eqb x 43 (λ e. let i = s.0.is in omega arith)) re
 
 -- ---- the reader
 
--- the text begins with digits, and no digit is behind them
+-- the text begins with digits, and no digit is behind fewer than 21
 pub record Cut (l digits rest : List ℕ) : Type 0 where
   pub whole : l ≡ digits ++ rest
   pub spelt : Spelt 10 figure digits
-  pub ends : NoDigit rest
+  pub ends : length digits < 21 → NoDigit rest
 
-cut-here : (l : List ℕ) → Spelt 10 figure (take (prefix_len is_ascii_digit l) l) × NoDigit (drop (prefix_len is_ascii_digit l) l)
-cut-here [] = (tt, none-empty 10 figure)
-cut-here (x ∷ xs) = by (is_ascii_digit x) refl (cut-here xs)
+-- of at most k bytes
+abbrev digits_of : ℕ → List ℕ → ℕ
+digits_of k l = prefix_len is_ascii_digit (take k l)
+
+abbrev CutAt : ℕ → List ℕ → ℕ → Type 0
+CutAt k l n = (length (take n l) ≡ n) × Spelt 10 figure (take n l) × (n < k → NoDigit (drop n l))
+
+cut-here : (k : ℕ) (l : List ℕ) → CutAt k l (digits_of k l)
+cut-here zero l = (refl, tt, λ h. absurd (omega arith))
+cut-here (suc k) [] = (refl, tt, λ h. none-empty 10 figure)
+cut-here (suc k) (x ∷ xs) = by (is_ascii_digit x) refl (digits_of k xs) refl (cut-here k xs)
   where
-    by : (b : Bool) → is_ascii_digit x ≡ b → Spelt 10 figure (take (prefix_len is_ascii_digit xs) xs) × NoDigit (drop (prefix_len is_ascii_digit xs) xs)
-        → Spelt 10 figure (take (prefix_len is_ascii_digit (x ∷ xs)) (x ∷ xs)) × NoDigit (drop (prefix_len is_ascii_digit (x ∷ xs)) (x ∷ xs))
-    by true e ih =
+    by : (b : Bool) → is_ascii_digit x ≡ b → (n : ℕ) → digits_of k xs ≡ n → CutAt k xs n → CutAt (suc k) (x ∷ xs) (digits_of (suc k) (x ∷ xs))
+    by true e n f ih =
         let r : (48 ≤ x) × (x ≤ 57) = grind arith in
-        let a : 1 + prefix_len is_ascii_digit xs ≡ suc (prefix_len is_ascii_digit xs) = omega arith in
-        rw (e, a) ((record { value = x - 48; small = omega arith; is = omega arith }, ih.0), ih.1)
-    by false e ih = rw e (tt, λ d rest h f. let q : x ≡ figure d = head-same f in let z : is_ascii_digit x ≡ true = grind arith in let y : ⊥ = cc in y)
+        let a : 1 + n ≡ suc n = omega arith in
+        let b : length (x ∷ take n xs) ≡ suc n = let c = ih.0 in omega arith in
+        rw (e, f, a) (b, (record { value = x - 48; small = omega arith; is = omega arith }, ih.1), λ h. ih.2 (omega arith))
+    by false e n f ih = rw e (refl, tt, λ h d rest s g. let q : x ≡ figure d = head-same g in let z : is_ascii_digit x ≡ true = grind arith in let y : ⊥ = cc in y)
 
-pub cut : (l : List ℕ) (n : ℕ) (digits rest : List ℕ) → n ≡ prefix_len is_ascii_digit l → digits ≡ take n l → rest ≡ drop n l → Cut l digits rest
+pub cut : (l : List ℕ) (n : ℕ) (digits rest : List ℕ) → n ≡ prefix_len is_ascii_digit (take 21 l) → digits ≡ take n l → rest ≡ drop n l → Cut l digits rest
 cut l n digits rest e f g =
-    let h = cut-here l in
-    rw (f, g, e) (record { whole = sym (take-append-drop (prefix_len is_ascii_digit l) l); spelt = h.0; ends = h.1 })
+    let h = cut-here 21 l in
+    rw (f, g, e) (record { whole = sym (take-append-drop (digits_of 21 l) l); spelt = h.1; ends = λ k. h.2 (let a = h.0 in omega arith) })
 
-module _ (l digits rest : List ℕ) (most : ℕ) (c : Cut l digits rest) where
+module _ (l digits rest : List ℕ) (most : ℕ) (m : most < 2 ^ 64) (c : Cut l digits rest) where
   none : ((v : ℕ) → v ≤ most → decimal_text v ≡ digits → ⊥) → DecimalAs most l None
-  none f = read-none decimal_text (λ v. v ≤ most) NoDigit l (λ v more g.
-      f v g.fits (spelt-same 10 figure (decimal_text v) digits more rest (spelt-text v) c.spelt g.ends c.ends (sym g.whole ∙ c.whole)).0)
+  none f = read-none decimal_text (λ v. v ≤ most) NoDigit l (λ v more g. by v more g (ltb (length digits) 21) refl)
+    where
+      by : (v : ℕ) (more : List ℕ) → Got decimal_text (λ v. v ≤ most) NoDigit l v more → (b : Bool) → ltb (length digits) 21 ≡ b → ⊥
+      by v more g true e =
+          f v g.fits (spelt-same 10 figure (decimal_text v) digits more rest (spelt-text v) c.spelt g.ends (c.ends (ltb-true _ _ e)) (sym g.whole ∙ c.whole)).0
+      by v more g false e =
+          let a : 21 ≤ length digits = ltb-false _ _ e in
+          let b : v ≤ most = g.fits in
+          let t = text-few v (omega arith) in
+          begun 10 figure digits (decimal_text v) rest more c.spelt (omega arith) (sym c.whole ∙ g.whole) g.ends
 
   -- a zero in front
   pub none-led : 1 < length digits → get_or digits 0 0 ≡ 48 → DecimalAs most l None
@@ -210,8 +246,8 @@ module _ (l digits rest : List ℕ) (most : ℕ) (c : Cut l digits rest) where
   not-text f = absurd (f (IsUtf8-from_ascii digits (IsAscii-from_digits digits (spelt-digits digits c.spelt))))
 
   -- no digit stands there, or they say more than a u64 holds
-  pub none-read : most < 2 ^ 64 → (IsNumeral 10 (without_leading_plus digits) × (digits_value 10 (without_leading_plus digits) < 2 ^ 64) → ⊥) → DecimalAs most l None
-  none-read m f = none (λ v h e.
+  pub none-read : (IsNumeral 10 (without_leading_plus digits) × (digits_value 10 (without_leading_plus digits) < 2 ^ 64) → ⊥) → DecimalAs most l None
+  none-read f = none (λ v h e.
       let some : 0 < length digits = rw e at (some-text v) in
       let w : digits_value 10 digits ≡ v = ap (digits_value 10) (sym e) ∙ value-text v in
       let p = no-plus digits c.spelt in
@@ -228,9 +264,11 @@ module _ (l digits rest : List ℕ) (most : ℕ) (c : Cut l digits rest) where
   some-read value n q k f =
       let p = no-plus digits c.spelt in
       let t : decimal_text value ≡ digits = ap decimal_text (q ∙ ap (digits_value 10) p) ∙ text-of digits (rw p at n) c.spelt f in
+      let few : length digits ≤ 20 = let a = text-few value (omega arith) in rw t at a in
+      let ends : NoDigit rest = c.ends (omega arith) in
       read-some decimal_text (λ v. v ≤ most) NoDigit l value rest
-      (record { whole = c.whole ∙ ap (λ (u : List ℕ). u ++ rest) (sym t); fits = k; ends = c.ends })
-      (λ w more _ h e. text_same value w rest more c.ends h e)
+      (record { whole = c.whole ∙ ap (λ (u : List ℕ). u ++ rest) (sym t); fits = k; ends = ends })
+      (λ w more _ h e. text_same value w rest more ends h e)
 
 -- ---- what the library's readers answer, where only the value is kept
 

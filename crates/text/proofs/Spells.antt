@@ -7,12 +7,7 @@ use lib.ListN.{length, drop, set, length-set, drop_of_length-le}
 use Rattle.lists.specs.Parts.{drop-set}
 use Rattle.text.specs.Text.{figure, decimal_text, glyphs, word_text}
 use Rattle.text.specs.Put.{EndsIn}
-use Rattle.text.proofs.Decimals.{text-one, text-more}
-
--- 10 to the k
-abbrev pub tenfold : ℕ → ℕ
-tenfold zero = 1
-tenfold (suc k) = 10 * tenfold k
+use Rattle.text.proofs.Decimals.{text-one, text-more, tenfold}
 
 -- the digits of n but those of `rest` stand from i on
 pub record Figuring (n : ℕ) (buffer : List ℕ) (rest i : ℕ) : Type 0 where

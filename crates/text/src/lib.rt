@@ -3,19 +3,22 @@
 
 #![tactic(auto)]
 
-ghost use Rattle.std.specs.Prelude.{◌≡◌, ◌≤◌, ◌<◌, length};
+ghost use Rattle.std.specs.Prelude.{◌≡◌, ◌≤◌, ◌<◌, length, take};
 ghost use Rattle.std.specs.Char.{is_ascii_digit};
 ghost use Rattle.std.specs.List.{prefix_len};
 ghost use Rattle.text.specs.Text.{decimal_text, word_text, glyph as glyph_of};
 ghost use Rattle.text.specs.Read.{seen, DecimalAs, WordAs, ByteAs, DigitsAs, ValueAs};
 ghost use Rattle.text.specs.Put.{PutAs, EndsIn};
 
-// How many decimal digits the text begins with.
+// How many decimal digits the text begins with, counted to 21: a u64 has 20 at most.
 fn digits_len(text: &[u8]) -> usize
-    ensures value { result ≡ prefix_len is_ascii_digit text.now }
+    ensures value { result ≡ prefix_len is_ascii_digit (take 21 text.now) }
     ensures within { result ≤ length text.now }
 {
-    text.iter().take_while(|byte| byte.is_ascii_digit()).count()
+    text.iter()
+        .take(21)
+        .take_while(|byte| byte.is_ascii_digit())
+        .count()
 }
 
 // A decimal of at most `most` with no digit behind it.
