@@ -1,9 +1,10 @@
 -- Digits written into a buffer from its end to its front.
 use mathlib.Core.Path.{◌≡◌, ap, sym, ◌∙◌}
 use mathlib.Core.List.{List, [], ◌∷◌, ◌++◌, append_assoc, append-nil}
-use Prim.Native.Nat.{ℕ, zero, suc, ◌+◌, ◌*◌, ◌/◌, ◌%◌, ◌≤◌, ◌<◌}
+use Prim.Native.Nat.{ℕ, zero, suc, ◌+◌, ◌-◌, ◌*◌, ◌/◌, ◌%◌, ◌≤◌, ◌<◌}
 use native.Mathlib.Omega.{arith}
 use lib.ListN.{length, drop, set, length-set, drop_of_length-le}
+use Rattle.std.proofs.Common.{slice_set}
 use Rattle.lists.specs.Parts.{drop-set}
 use Rattle.text.specs.Text.{figure, decimal_text, glyphs, word_text}
 use Rattle.text.specs.Put.{EndsIn}
@@ -45,8 +46,8 @@ module _ (n : ℕ) (buffer : List ℕ) (rest i k : ℕ) (s : Figuring n buffer r
       by zero r = omega arith
       by (suc j) r = omega arith
 
-  pub figuring-done : rest ≤ 9 → EndsIn (decimal_text n) (set buffer k (figure (rest % 10))) k
-  figuring-done h = let m : rest % 10 ≡ rest = omega arith in rw m last
+  figured : rest ≤ 9 → EndsIn (decimal_text n) (set buffer k (figure (rest % 10))) k
+  figured h = let m : rest % 10 ≡ rest = omega arith in rw m last
     where
       last : EndsIn (decimal_text n) (set buffer k (figure rest)) k
       last =
@@ -57,6 +58,13 @@ module _ (n : ℕ) (buffer : List ℕ) (rest i k : ℕ) (s : Figuring n buffer r
             ends = front (figure rest) ∙ ap (λ (u : List ℕ). u ++ drop i buffer) (sym (text-one rest (omega arith))) ∙ sym s.whole;
             inside = omega arith;
           }
+
+-- the last digit, and the place that it gets
+pub figuring_done : (n : ℕ) (buffer : List ℕ) (rest i : ℕ) → Figuring n buffer rest i → rest ≤ 9 → drop (i - 1) (slice_set buffer (i - 1) (48 + rest % 10)) ≡ decimal_text n
+figuring_done n buffer rest i s h = let a = s.some in (figured n buffer rest i (i - 1) s (omega arith) h).ends
+
+pub figuring_place : (n : ℕ) (buffer : List ℕ) (rest i x : ℕ) → Figuring n buffer rest i → i - 1 ≤ length (slice_set buffer (i - 1) x)
+figuring_place n buffer rest i x s = let a = s.size in let b = s.inside in let c = length-set buffer (i - 1) x in omega arith
 
 -- the digits of n but the first i stand from i on
 pub record Glyphing (n : ℕ) (buffer : List ℕ) (rest i : ℕ) : Type 0 where

@@ -95,6 +95,7 @@ pub fn put_literal(out: &mut [u8], at: usize, text: &[u8]) -> usize
 // From the last digit to the first.
 // By hand, as `glyph` and `spell_word`: the library's printing states the digits only where it succeeds, and no contract
 // says that it does where they have room.
+#[tactic(auto, using(crate::proofs::Spells::figuring_done, crate::proofs::Spells::figuring_place))]
 fn spell_decimal(n: u64, buffer: &mut [u8; 20]) -> usize
     ensures { EndsIn (decimal_text n) buffer.new result }
 {
