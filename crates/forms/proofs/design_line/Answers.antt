@@ -1,3 +1,4 @@
+use Rattle.std.proofs.lemmas.Grind.{common_steps}
 use native.Mathlib.Omega.{arith}
 use Rattle.forms.specs.Forms.{design_text, DesignFits, close_design}
 use Rattle.forms.proofs.Chains.{AtEnd, apart, step, stop, and_then, ended, words-same, words-differ, line-none, line-some, as_form}
@@ -76,8 +77,10 @@ returns-in_err-modulation c =
 
 pub returns-then-ne : goal.returns-then-ne
 returns-then-ne c =
-    line-none design_text DesignFits _ (λ f h b. words-differ close_design _ _ c.as_slice.ensures c.if-ne.ensures
-    (step _ _ _ _ _ _ _ _ c.in_ok-modulation.ensures h.modulation tt
+    let n = words-differ close_design _ _ c.as_slice.ensures c.if-ne.ensures in
+    line-none design_text DesignFits _ (λ f h b.
+    let r =
+    step _ _ _ _ _ _ _ _ c.in_ok-modulation.ensures h.modulation tt
     (step _ _ _ _ _ _ _ _ c.in_ok-glide.ensures h.glide tt
     (step _ _ _ _ _ _ _ _ c.in_ok-amp.ensures h.amp tt
     (step _ _ _ _ _ _ _ _ c.in_ok-width.ensures h.width tt
@@ -85,10 +88,12 @@ returns-then-ne c =
     (step _ _ _ _ _ _ _ _ c.in_ok-mode.ensures tt tt
     (step _ _ _ _ _ _ _ _ c.in_ok-max.ensures (within h.max) (apart 41 _ (omega arith))
     (step _ _ _ _ _ _ _ _ c.in_ok-rate.ensures (within h.rate) (apart 41 _ (omega arith))
-    b)))))))))
+    b))))))) in
+    n (grind (arith, common_steps, r)))
 
 pub returns : goal.returns
 returns c =
+    let e = words-same close_design _ _ c.as_slice.ensures c.if-ne.ensures in
     line-some design_text DesignFits _ _ _ (as_form _ _ _ _ _ _ design_same AtEnd _ (
       c.in_ok-rate.rate,
       (
@@ -107,7 +112,7 @@ returns c =
     (and_then _ _ _ _ _ _ _ _ _ _ _ c.in_ok-amp.ensures
     (and_then _ _ _ _ _ _ _ _ _ _ _ c.in_ok-glide.ensures
     (and_then _ _ _ _ _ _ _ _ _ _ _ c.in_ok-modulation.ensures
-    (ended close_design _ (words-same close_design _ _ c.as_slice.ensures c.if-ne.ensures))
+    (ended close_design _ (grind (arith, common_steps, e)))
     (λ w rest k. tt))
     (λ w rest k. tt))
     (λ w rest k. tt))
