@@ -85,6 +85,11 @@ on_same = record {
   again = λ w. let form : Bool → OnForm = λ b. record { note = w.note; velocity = w.velocity; built = b } in ap form (bit_again w.built);
 }
 
+-- a form is known by its fields
+pub on_form : (l : List ℕ) (p : OnParts) (note velocity : ℕ) (built : Bool) → OnAs l (Some (on_of p)) → note ≡ p.0 → velocity ≡ p.1.0 → built ≡ eqb p.1.1.0 1
+    → OnAs l (Some (record { note = note; velocity = velocity; built = built }))
+on_form l p note velocity built q a b c = rw (a, b, c) q
+
 abbrev pub DesignParts : Type 0
 DesignParts = ℕ × (ℕ × (PlayMode × (ℕ × (ℕ × (AmpForm × (ℕ × (ModulationForm × Unit {0})))))))
 
