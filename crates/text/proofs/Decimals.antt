@@ -2,11 +2,12 @@
 use mathlib.Core.Path.{◌≡◌, refl, ap, sym, ◌∙◌}
 use mathlib.Core.Bool.{Bool, true, false}
 use mathlib.Core.List.{List, [], ◌∷◌, ◌++◌, append_assoc, append-nil}
-use Prim.Native.Nat.{ℕ, zero, suc, ◌+◌, ◌-◌, ◌*◌, ◌/◌, ◌%◌, ◌^◌, ◌≤◌, ◌<◌}
+use Prim.Native.Nat.{ℕ, zero, suc, min, ◌+◌, ◌-◌, ◌*◌, ◌/◌, ◌%◌, ◌^◌, ◌≤◌, ◌<◌}
 use native.Mathlib.Omega.{arith}
 use lib.Dec.{ltb}
 use borrow.Author.Tests.{ltb-true, ltb-false, lt-ltb, le-ltb, ne_eqb}
 use lib.ListN.{length, get_or, take, drop, length-append, take-append-drop}
+use lib.Seq.{take_all}
 use Rattle.std.specs.Char.{digit_value, is_ascii_digit}
 use Rattle.std.specs.List.{prefix_len}
 use Rattle.std.specs.Str.Parse.{ParsesUnsigned, AllDigits, IsNumeral, digits_value, digits_value_after, without_leading_plus}
@@ -215,10 +216,19 @@ cut-here (suc k) (x ∷ xs) = by (is_ascii_digit x) refl (digits_of k xs) refl (
         rw (e, f, a) (b, (record { value = x - 48; small = omega arith; is = omega arith }, ih.1), λ h. ih.2 (omega arith))
     by false e n f ih = rw e (refl, tt, λ h d rest s g. let q : x ≡ figure d = head-same g in let z : is_ascii_digit x ≡ true = grind arith in let y : ⊥ = cc in y)
 
-pub cut : (l : List ℕ) (n : ℕ) (digits rest : List ℕ) → n ≡ prefix_len is_ascii_digit (take 21 l) → digits ≡ take n l → rest ≡ drop n l → Cut l digits rest
-cut l n digits rest e f g =
+head-long : (l : List ℕ) (m : ℕ) → m ≡ min (length l) 21 → take m l ≡ take 21 l
+head-long l m e = by (ltb (length l) 21) refl
+  where
+    by : (b : Bool) → ltb (length l) 21 ≡ b → take m l ≡ take 21 l
+    by true p = let q : length l < 21 = ltb-true _ _ p in take_all m l (omega arith) ∙ sym (take_all 21 l (omega arith))
+    by false p = let q : 21 ≤ length l = ltb-false _ _ p in let r : m ≡ 21 = omega arith in rw r refl
+
+pub cut : (l : List ℕ) (m n : ℕ) (digits rest : List ℕ) → m ≡ min (length l) 21 → n ≡ prefix_len is_ascii_digit (take m l) → digits ≡ take n l → rest ≡ drop n l
+    → Cut l digits rest
+cut l m n digits rest b e f g =
     let h = cut-here 21 l in
-    rw (f, g, e) (record { whole = sym (take-append-drop (digits_of 21 l) l); spelt = h.1; ends = λ k. h.2 (let a = h.0 in omega arith) })
+    let a : n ≡ digits_of 21 l = e ∙ ap (prefix_len is_ascii_digit) (head-long l m b) in
+    rw (f, g, a) (record { whole = sym (take-append-drop (digits_of 21 l) l); spelt = h.1; ends = λ k. h.2 (let s = h.0 in omega arith) })
 
 module _ (l digits rest : List ℕ) (most : ℕ) (m : most < 2 ^ 64) (c : Cut l digits rest) where
   none : ((v : ℕ) → v ≤ most → decimal_text v ≡ digits → ⊥) → DecimalAs most l None

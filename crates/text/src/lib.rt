@@ -3,29 +3,28 @@
 
 #![tactic(auto)]
 
-ghost use Rattle.std.specs.Prelude.{◌≡◌, ◌≤◌, ◌<◌, length, take};
+ghost use Rattle.std.specs.Prelude.{◌≡◌, ◌≤◌, ◌<◌, length};
 ghost use Rattle.std.specs.Char.{is_ascii_digit};
 ghost use Rattle.std.specs.List.{prefix_len};
 ghost use Rattle.text.specs.Text.{decimal_text, word_text, glyph as glyph_of};
 ghost use Rattle.text.specs.Read.{seen, DecimalAs, WordAs, ByteAs, DigitsAs, ValueAs};
 ghost use Rattle.text.specs.Put.{PutAs, EndsIn};
 
-// How many decimal digits the text begins with, counted to 21: a u64 has 20 at most.
+// How many decimal digits the text begins with.
 fn digits_len(text: &[u8]) -> usize
-    ensures value { result ≡ prefix_len is_ascii_digit (take 21 text.now) }
+    ensures value { result ≡ prefix_len is_ascii_digit text.now }
     ensures within { result ≤ length text.now }
 {
-    text.iter()
-        .take(21)
-        .take_while(|byte| byte.is_ascii_digit())
-        .count()
+    text.iter().take_while(|byte| byte.is_ascii_digit()).count()
 }
 
 // A decimal of at most `most` with no digit behind it.
+// A u64 has 20 digits at most, so a longer run is not read to its end.
 pub fn decimal(text: &[u8], most: u64) -> Option<(u64, &[u8])>
     ensures { DecimalAs most text.now (seen result) }
 {
-    let (digits, rest) = text.split_at(digits_len(text));
+    let head = &text[..text.len().min(21)];
+    let (digits, rest) = text.split_at(digits_len(head));
     if digits.len() > 1 && digits[0] == b'0' {
         return None;
     }
