@@ -16,6 +16,7 @@ ghost use Rattle.host.specs.Hosted.{Hosts, Makes, AskedBy, BegunAs, HostCallAs, 
 use design::InstrumentDesign;
 use instrument::{Instrument, Reply, Report};
 use outcome::{Outcome, Refusal};
+use std::num::NonZeroU64;
 use wire::{HostDesign, HostState};
 
 pub mod events;
@@ -106,8 +107,8 @@ impl From<Reply> for HostReply {
                 taken,
             } => HostReply {
                 handle,
-                killed: killed.unwrap_or(0),
-                taken: taken.unwrap_or(0),
+                killed: killed.map_or(0, NonZeroU64::get),
+                taken: taken.map_or(0, NonZeroU64::get),
                 ..Kind::Started.into()
             },
             Reply::Silent(handle) => HostReply {

@@ -11,3 +11,4 @@ pub mod Queries
 pub mod Plans
 pub mod Mixes
 pub mod Levels
+pub mod Told

@@ -1,6 +1,8 @@
 -- What a call on a state promises: its reply, the next state through its view, and on a refusal the very state given
 -- (document 01, "What a call replies").
-use Rattle.std.specs.Prelude.{◌≡◌, Bool, true, false, ◌&&◌, cond, List, ℕ, eqb, Float, unwrap_or, Result, Ok, Err}
+use Rattle.std.specs.Prelude.{◌≡◌, Bool, true, false, ◌&&◌, cond, List, ℕ, eqb, Float, Option, Some, None, Result, Ok, Err}
+use Rattle.std.specs.NonZero.{non_zero_u64_get}
+use Rattle.std.specs.declared.num.NonZeroU64.{NonZeroU64}
 use Rattle.outcome.specs.declared.Outcome.{Outcome}
 use Rattle.outcome.specs.declared.Refusal.{Refusal}
 use Rattle.outcome.specs.declared.Refusal.TheVariants.{Malformed, BlockOpen, NoHandleLeft}
@@ -20,9 +22,14 @@ use Rattle.instrument.specs.declared.Reply.TheVariants.{Started, Silent, Kept, O
 abbrev pub Called : Type 0
 Called = Outcome Instrument Reply
 
--- document 01's reply, with its number and values, for each case; 0 for no handle
+-- a handle as a number, 0 for none
+abbrev pub handle_or_none : Option NonZeroU64 → ℕ
+handle_or_none (Some handle) = non_zero_u64_get handle
+handle_or_none None = 0
+
+-- document 01's reply, with its number and values, for each case
 abbrev pub reply_of : Result Reply Refusal → model.Reply
-reply_of (Ok (Started handle killed taken)) = model.Reply.started handle (unwrap_or killed 0) (unwrap_or taken 0)
+reply_of (Ok (Started handle killed taken)) = model.Reply.started handle (handle_or_none killed) (handle_or_none taken)
 reply_of (Ok (Silent handle)) = model.Reply.silent handle
 reply_of (Ok (Kept handle)) = model.Reply.kept handle
 reply_of (Ok (Off found)) = model.Reply.off found
@@ -30,6 +37,10 @@ reply_of (Ok Done) = model.Reply.done
 reply_of (Ok (Released found)) = model.Reply.released found
 reply_of (Ok Planned) = model.Reply.planned
 reply_of (Err refusal) = model.Reply.refused (number_of refusal)
+
+-- no two replies say the same: what a call replies is known whole
+abbrev pub RepliesTold : Type 0
+RepliesTold = (r q : Result Reply Refusal) → reply_of r ≡ reply_of q → r ≡ q
 
 -- the number of the refusal, 0 where the call is accepted: a count beyond its array is refusal 1 before anything else is read
 unfoldable pub refusal_of : Instrument → model.Call → ℕ

@@ -12,7 +12,7 @@ ghost use Rattle.model.specs.Queries.{is_active, active_voices};
 ghost use Rattle.design.specs.declared.PlayMode.TheVariants.{Mono};
 ghost use Rattle.model.specs.Notes.{mono_off, velocity_of, new_note, mono_on, new_handle_in};
 ghost use Rattle.instrument.specs.View.{view, counted, formed as formed_state};
-ghost use Rattle.instrument.specs.Calls.{StartAs, last_handle, barred_by, Gives, OnAs, CallAs};
+ghost use Rattle.instrument.specs.Calls.{StartAs, RepliesTold, last_handle, barred_by, Gives, OnAs, CallAs};
 ghost use Rattle.instrument.specs.Levels.{StartLevels};
 ghost use Rattle.instrument.specs.Asked.{active_of, voices_of, asked_of, VoiceAs};
 
@@ -22,6 +22,7 @@ use held::Held;
 use lists::fills;
 use note::Note;
 use outcome::{Outcome, Refusal};
+use std::num::NonZeroU64;
 use stream::UnisonCopy;
 use table::Table;
 use voice::{Voice, new_voice};
@@ -54,11 +55,11 @@ pub struct Instrument {
 // What a call replies.
 #[derive(Clone, Copy)]
 pub enum Reply {
-    // A new handle with its voice, and the handles killed and taken out for it.
+    // A new handle with its voice, and the handles killed and taken out for it. No handle is 0: as a number 0 is none.
     Started {
         handle: u64,
-        killed: Option<u64>,
-        taken: Option<u64>,
+        killed: Option<NonZeroU64>,
+        taken: Option<NonZeroU64>,
     },
     // A new handle, and no voice.
     Silent(u64),
@@ -141,6 +142,12 @@ pub fn levels_within(design: InstrumentDesign)
 {
     times_fit(design);
 }
+
+// The theorem that no two replies say the same: None and a handle are told apart.
+#[tactic(auto, using(crate::proofs::Told::replies_told))]
+pub fn replies_told()
+    ensures { RepliesTold }
+{}
 
 // A NaN is no velocity; others lie within 0 and 1.
 #[tactic(auto, unfolding(model::specs::Notes::velocity_of))]
@@ -267,8 +274,8 @@ impl Instrument {
             self,
             Reply::Started {
                 handle,
-                killed: added.killed,
-                taken: added.taken,
+                killed: added.killed.and_then(NonZeroU64::new),
+                taken: added.taken.and_then(NonZeroU64::new),
             },
         )
     }

@@ -4,6 +4,7 @@ use instrument::Reply;
 use midi::{Cursor, Event};
 use outcome::{Outcome, Refusal};
 use patterns::{Page, bits};
+use std::num::NonZeroU64;
 
 pub fn refused(page: &mut Page, refusal: Refusal) {
     page.put(b"(refused D)\n", &[u64::from(refusal.number())]);
@@ -29,7 +30,11 @@ fn accepted(page: &mut Page, reply: Reply) {
             killed,
             taken,
         } => {
-            let numbers = [handle, killed.unwrap_or(0), taken.unwrap_or(0)];
+            let numbers = [
+                handle,
+                killed.map_or(0, NonZeroU64::get),
+                taken.map_or(0, NonZeroU64::get),
+            ];
             page.put(b"(started D D D)\n", &numbers)
         }
         Reply::Silent(handle) => page.put(b"(silent D)\n", &[handle]),

@@ -16,6 +16,7 @@ use design::InstrumentDesign;
 use forms::{DesignForm, Form, OnForm};
 use instrument::{Instrument, Reply};
 use outcome::Refusal;
+use std::num::NonZeroU64;
 use table::Table;
 use voice::Voice;
 
@@ -79,7 +80,12 @@ fn put_accepted(out: &mut [u8], reply: Reply) -> usize
             handle,
             killed,
             taken,
-        } => put_started(out, handle, killed.unwrap_or(0), taken.unwrap_or(0)),
+        } => put_started(
+            out,
+            handle,
+            killed.map_or(0, NonZeroU64::get),
+            taken.map_or(0, NonZeroU64::get),
+        ),
         Reply::Silent(handle) => put_one(out, b"(silent ", handle),
         Reply::Kept(handle) => put_one(out, b"(kept ", handle),
         Reply::Off(found) => put_one(out, b"(off ", u64::from(found)),
