@@ -191,9 +191,11 @@ impl From<Result<Option<u64>, Refusal>> for HostReply {
     }
 }
 
-// The very numbers given on a refusal, else those of the next state.
-fn outcome(h: HostState, made: Outcome<Instrument, Reply>) -> HostOutcome
-    ensures { Hosts h (reply_of made.reply) made.state result.reply result.state }
+// The very numbers given on a refusal, else those of the next state. Here and below by reference, which spares copies of
+// all the numbers.
+#[inline(never)]
+fn outcome(h: &HostState, made: &Outcome<Instrument, Reply>) -> HostOutcome
+    ensures { Hosts h.now (reply_of made.now.reply) made.now.state result.reply result.state }
 {
     match made.reply {
         Ok(reply) => HostOutcome {
@@ -204,35 +206,38 @@ fn outcome(h: HostState, made: Outcome<Instrument, Reply>) -> HostOutcome
     }
 }
 
-fn refused(h: HostState, refusal: Refusal) -> HostOutcome
-    ensures { result ≡ record { reply = refusing (number_of refusal); state = h } }
+#[inline(never)]
+fn refused(h: &HostState, refusal: Refusal) -> HostOutcome
+    ensures { result ≡ record { reply = refusing (number_of refusal); state = h.now } }
 {
     HostOutcome {
         reply: refusal.into(),
-        state: h,
+        state: *h,
     }
 }
 
 // The call on the state that the numbers stand for; numbers that stand for none are refused.
-fn hosted<F: FnOnce(Instrument) -> Outcome<Instrument, Reply>>(h: HostState, call: F) -> HostOutcome
+#[inline(never)]
+fn hosted<F: FnOnce(Instrument) -> Outcome<Instrument, Reply>>(h: &HostState, call: F) -> HostOutcome
     requires { F.IsAlwaysCallable call }
-    ensures { (c : Call) → Makes (F.post call) c → HostCallAs h c result }
+    ensures { (c : Call) → Makes (F.post call) c → HostCallAs h.now c result }
 {
-    match Instrument::try_from(&h) {
-        Ok(s) => outcome(h, call(s)),
-        Err(refusal) => refused(h, refusal),
+    if !h.is_numbered() {
+        return refused(h, Refusal::Malformed);
     }
+    outcome(h, &call(h.state()))
 }
 
 // As `hosted`, for a query.
-fn asked<F: FnOnce(Instrument) -> HostReply>(h: HostState, ask: F) -> HostReply
+#[inline(never)]
+fn asked<F: FnOnce(Instrument) -> HostReply>(h: &HostState, ask: F) -> HostReply
     requires { F.IsAlwaysCallable ask }
-    ensures { AskedBy (F.post ask) h result }
+    ensures { AskedBy (F.post ask) h.now result }
 {
-    match Instrument::try_from(&h) {
-        Ok(s) => ask(s),
-        Err(refusal) => refusal.into(),
+    if !h.is_numbered() {
+        return Refusal::Malformed.into();
     }
+    ask(h.state())
 }
 
 #[tactic(auto, unfolding(model::specs::Start::start_of))]
@@ -265,44 +270,44 @@ pub fn cirstumbe_new(design: HostDesign) -> HostOutcome
 pub fn cirstumbe_note_on(h: HostState, note: u8, velocity: f32, built: u32) -> HostOutcome
     ensures { HostCallAs h (Call.note_on note velocity (flag_of built)) result }
 {
-    hosted(h, |s| s.note_on(note, velocity, built != 0))
+    hosted(&h, |s| s.note_on(note, velocity, built != 0))
 }
 
 pub fn cirstumbe_note_off(h: HostState, note: u8) -> HostOutcome
     ensures { HostCallAs h (Call.control (Control.note_off note)) result }
 {
-    hosted(h, |s| s.note_off(note))
+    hosted(&h, |s| s.note_off(note))
 }
 
 // `down` is 0, or any other number for yes.
 pub fn cirstumbe_set_sustain(h: HostState, down: u32) -> HostOutcome
     ensures { HostCallAs h (Call.control (Control.pedal (flag_of down))) result }
 {
-    hosted(h, |s| s.set_sustain(down != 0))
+    hosted(&h, |s| s.set_sustain(down != 0))
 }
 
 pub fn cirstumbe_set_bend(h: HostState, factor: f32) -> HostOutcome
     ensures { HostCallAs h (Call.control (Control.bend factor)) result }
 {
-    hosted(h, |s| s.set_bend(factor))
+    hosted(&h, |s| s.set_bend(factor))
 }
 
 pub fn cirstumbe_set_brightness(h: HostState, scale: f32) -> HostOutcome
     ensures { HostCallAs h (Call.control (Control.brightness scale)) result }
 {
-    hosted(h, |s| s.set_brightness(scale))
+    hosted(&h, |s| s.set_brightness(scale))
 }
 
 pub fn cirstumbe_release(h: HostState, handle: u64) -> HostOutcome
     ensures { HostCallAs h (Call.control (Control.release handle)) result }
 {
-    hosted(h, |s| s.release(handle))
+    hosted(&h, |s| s.release(handle))
 }
 
 pub fn cirstumbe_all_notes_off(h: HostState) -> HostOutcome
     ensures { HostCallAs h (Call.control Control.all_off) result }
 {
-    hosted(h, |s| s.all_notes_off())
+    hosted(&h, |s| s.all_notes_off())
 }
 
 pub fn cirstumbe_plan(
@@ -316,16 +321,18 @@ pub fn cirstumbe_plan(
     ensures { HostPlanAs h frames vibrato filter tremolo_sine curve.old curve.new result }
 {
     // Not by `hosted`: the contract of a closure that is handed on says nothing of the memory that it is lent.
-    match Instrument::try_from(&h) {
-        Ok(s) => outcome(h, s.plan(frames, vibrato, filter, tremolo_sine, curve)),
-        Err(refusal) => refused(h, refusal),
+    if !h.is_numbered() {
+        return refused(&h, Refusal::Malformed);
     }
+    let made = h.state().plan(frames, vibrato, filter, tremolo_sine, curve);
+    outcome(&h, &made)
 }
 
 // The very numbers given and no report on a refusal, else those of the next state with the report.
-fn mix_outcome(h: HostState, made: Outcome<Instrument, Report>) -> HostMixOutcome
-    ensures reported { result.ended ≡ report_of (mix_reply_of made.reply) }
-    ensures hosted { Hosts h (mix_reply_of made.reply) made.state result.reply result.state }
+#[inline(never)]
+fn mix_outcome(h: &HostState, made: &Outcome<Instrument, Report>) -> HostMixOutcome
+    ensures reported { result.ended ≡ report_of (mix_reply_of made.now.reply) }
+    ensures hosted { Hosts h.now (mix_reply_of made.now.reply) made.now.state result.reply result.state }
 {
     match made.reply {
         Ok(report) => {
@@ -343,13 +350,14 @@ fn mix_outcome(h: HostState, made: Outcome<Instrument, Report>) -> HostMixOutcom
     }
 }
 
-fn unmixed(h: HostState, refusal: Refusal) -> HostMixOutcome
-    ensures { result ≡ record { reply = refusing (number_of refusal); ended = replicate 64 0; state = h } }
+#[inline(never)]
+fn unmixed(h: &HostState, refusal: Refusal) -> HostMixOutcome
+    ensures { result ≡ record { reply = refusing (number_of refusal); ended = replicate 64 0; state = h.now } }
 {
     HostMixOutcome {
         reply: refusal.into(),
         ended: [0; 64],
-        state: h,
+        state: *h,
     }
 }
 
@@ -357,28 +365,28 @@ fn unmixed(h: HostState, refusal: Refusal) -> HostMixOutcome
 pub fn cirstumbe_mix(h: HostState, samples: &[f32], out: &mut [f32]) -> HostMixOutcome
     ensures { HostMixAs h samples.now out.old out.new result }
 {
-    match Instrument::try_from(&h) {
-        Ok(s) => mix_outcome(h, s.mix(samples, out)),
-        Err(refusal) => unmixed(h, refusal),
+    if !h.is_numbered() {
+        return unmixed(&h, Refusal::Malformed);
     }
+    mix_outcome(&h, &h.state().mix(samples, out))
 }
 
 #[tactic(auto, unfolding(crate::specs::Hosted::host_asked, instrument::specs::Asked::asked_of))]
 pub fn cirstumbe_is_active(h: HostState, handle: u64) -> HostReply
     ensures { result ≡ said_answer (host_asked h (is_active (model_of h) handle)) }
 {
-    asked(h, |s| s.is_active(handle).into())
+    asked(&h, |s| s.is_active(handle).into())
 }
 
 #[tactic(auto, unfolding(crate::specs::Hosted::host_asked, instrument::specs::Asked::asked_of))]
 pub fn cirstumbe_active_voices(h: HostState) -> HostReply
     ensures { result ≡ said_answer (host_asked h (active_voices (model_of h))) }
 {
-    asked(h, |s| s.active_voices().into())
+    asked(&h, |s| s.active_voices().into())
 }
 
 pub fn cirstumbe_voice_of(h: HostState, note: u8) -> HostReply
     ensures { HostVoiceAs h note result }
 {
-    asked(h, |s| s.voice_of(note).into())
+    asked(&h, |s| s.voice_of(note).into())
 }

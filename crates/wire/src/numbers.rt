@@ -51,6 +51,7 @@ impl HostVoice {
 impl HostState {
     // Whether every count lies within its array, and every number up to the counts names a mode, a stage, or yes or no.
     #[tactic(auto, unfolding(crate::specs::Reads::numbered))]
+    #[inline(never)]
     pub fn is_numbered(&self) -> bool
         ensures { result ≡ numbered self.now }
     {

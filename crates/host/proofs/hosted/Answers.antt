@@ -1,10 +1,14 @@
+use Rattle.std.proofs.Common.{◌≡◌, true, false, rules, tests}
+use Rattle.wire.specs.Reads.{numbered}
 use Rattle.host.proofs.Laws.{unread-outcome, hosted}
 use Rattle.host.proofs.hosted.Goals as goal
 
-pub returns-in-Ok : goal.returns-in-Ok
-returns-in-Ok g c = λ call made.
-    let k = c.in-Ok.ensures in
-    hosted _ _ k.0 k.1 call _ _ _ _ (made _ _ c.call.ensures) c.outcome.ensures
+pub returns-then-not-is_numbered : goal.returns-then-not-is_numbered
+returns-then-not-is_numbered g c = λ call made.
+    let k : numbered c.args.h.now ≡ false = search (rules, tests) in
+    unread-outcome _ k call _ c.refused.ensures
 
-pub returns-in-Err : goal.returns-in-Err
-returns-in-Err g c = λ call made. let k = c.in-Err.ensures in unread-outcome _ k.0 call _ (rw k.1 at c.refused.ensures)
+pub returns : goal.returns
+returns g c = λ call made.
+    let k : numbered c.args.h.now ≡ true = search (rules, tests) in
+    hosted _ _ k c.state.ensures call _ _ _ _ (made _ _ c.call.ensures) c.outcome.ensures
