@@ -149,6 +149,14 @@ fn first_made<A: Copy, B: Copy, const N: usize, F: Fn(A) -> B>(
     made
 }
 
+// Apart, for what stands behind a count: in place, its parts would be written to every place of the array one by one.
+#[inline(never)]
+fn made_apart<A, B: From<A>>(item: A) -> B
+    ensures { B.from_gives item result }
+{
+    B::from(item)
+}
+
 impl From<HostDesign> for InstrumentDesign {
     ghost from_gives = { λ d r. r ≡ design_of d };
 
@@ -217,6 +225,7 @@ impl From<HostCopy> for UnisonCopy {
 impl From<HostVoice> for Voice {
     ghost from_gives = { λ h v. seen v ≡ seen_of h };
 
+    #[inline(always)]
     fn from(h: HostVoice) -> Voice {
         Voice {
             handle: h.handle,
@@ -249,7 +258,7 @@ impl HostState {
                 voices: first_made(
                     &self.voices,
                     self.voice_count,
-                    Voice::from(self.voices[0]),
+                    made_apart(self.voices[0]),
                     Voice::from,
                 ),
                 count: self.voice_count,

@@ -5,7 +5,7 @@ ghost use Rattle.voice.specs.View.{seen};
 ghost use Rattle.wire.specs.Reads.{mode_of, stage_of, design_of, env_of, copy_of, seen_of, WrittenFrom};
 ghost use Rattle.wire.specs.Reads.{mode_numbered, stage_numbered, copy_numbered, voice_numbered, numbered};
 
-use crate::{HostCopy, HostDesign, HostEnv, HostState, HostVoice, first_made};
+use crate::{HostCopy, HostDesign, HostEnv, HostState, HostVoice, first_made, made_apart};
 use design::{InstrumentDesign, PlayMode};
 use envelope::{EnvGen, Stage};
 use instrument::Instrument;
@@ -156,6 +156,7 @@ impl From<UnisonCopy> for HostCopy {
 impl From<Voice> for HostVoice {
     ghost from_gives = { λ v r. (seen_of r ≡ seen v) × (voice_numbered r ≡ leb v.copy_count 8) };
 
+    #[inline(always)]
     fn from(v: Voice) -> HostVoice {
         HostVoice {
             handle: v.handle,
@@ -186,7 +187,7 @@ impl From<&Instrument> for HostState {
             voices: first_made(
                 &s.table.voices,
                 s.table.count,
-                HostVoice::from(s.table.voices[0]),
+                made_apart(s.table.voices[0]),
                 HostVoice::from,
             ),
             voice_count: s.table.count,
