@@ -193,7 +193,7 @@ impl From<Result<Option<u64>, Refusal>> for HostReply {
 
 // The very numbers given on a refusal, else those of the next state. Here and below by reference, which spares copies of
 // all the numbers.
-#[inline(never)]
+#[inline(always)]
 fn outcome(h: &HostState, made: &Outcome<Instrument, Reply>) -> HostOutcome
     ensures { Hosts h.now (reply_of made.now.reply) made.now.state result.reply result.state }
 {
@@ -206,7 +206,7 @@ fn outcome(h: &HostState, made: &Outcome<Instrument, Reply>) -> HostOutcome
     }
 }
 
-#[inline(never)]
+#[inline(always)]
 fn refused(h: &HostState, refusal: Refusal) -> HostOutcome
     ensures { result ≡ record { reply = refusing (number_of refusal); state = h.now } }
 {
@@ -217,7 +217,7 @@ fn refused(h: &HostState, refusal: Refusal) -> HostOutcome
 }
 
 // The call on the state that the numbers stand for; numbers that stand for none are refused.
-#[inline(always)]
+#[inline(never)]
 fn hosted<F: FnOnce(Instrument) -> Outcome<Instrument, Reply>>(h: &HostState, call: F) -> HostOutcome
     requires { F.IsAlwaysCallable call }
     ensures { (c : Call) → Makes (F.post call) c → HostCallAs h.now c result }
@@ -329,7 +329,7 @@ pub fn cirstumbe_plan(
 }
 
 // The very numbers given and no report on a refusal, else those of the next state with the report.
-#[inline(never)]
+#[inline(always)]
 fn mix_outcome(h: &HostState, made: &Outcome<Instrument, Report>) -> HostMixOutcome
     ensures reported { result.ended ≡ report_of (mix_reply_of made.now.reply) }
     ensures hosted { Hosts h.now (mix_reply_of made.now.reply) made.now.state result.reply result.state }
@@ -350,7 +350,7 @@ fn mix_outcome(h: &HostState, made: &Outcome<Instrument, Report>) -> HostMixOutc
     }
 }
 
-#[inline(never)]
+#[inline(always)]
 fn unmixed(h: &HostState, refusal: Refusal) -> HostMixOutcome
     ensures { result ≡ record { reply = refusing (number_of refusal); ended = replicate 64 0; state = h.now } }
 {
