@@ -217,7 +217,7 @@ fn refused(h: &HostState, refusal: Refusal) -> HostOutcome
 }
 
 // The call on the state that the numbers stand for; numbers that stand for none are refused.
-#[inline(never)]
+#[inline(always)]
 fn hosted<F: FnOnce(Instrument) -> Outcome<Instrument, Reply>>(h: &HostState, call: F) -> HostOutcome
     requires { F.IsAlwaysCallable call }
     ensures { (c : Call) → Makes (F.post call) c → HostCallAs h.now c result }
