@@ -6,8 +6,9 @@ ghost use Rattle.std.specs.Prelude.{◌≡◌, Ok, replicate};
 ghost use Rattle.model.specs.Types.{Control, Call};
 ghost use Rattle.model.specs.Queries.{is_active, active_voices};
 ghost use Rattle.outcome.specs.Numbers.{number_of};
-ghost use Rattle.instrument.specs.Calls.{reply_of};
+ghost use Rattle.instrument.specs.Calls.{reply_of, CallAs};
 ghost use Rattle.instrument.specs.Asked.{active_of, voices_of, handle_of};
+ghost use Rattle.instrument.specs.Plans.{PlannedAs};
 ghost use Rattle.instrument.specs.Mixes.{mix_reply_of};
 ghost use Rattle.wire.specs.Reads.{flag_of, model_of};
 ghost use Rattle.host.specs.Said.{saying, kind_of, refusing, said_of, report_of, said_start, said_answer};
@@ -266,11 +267,33 @@ pub fn cirstumbe_new(design: HostDesign) -> HostOutcome
     })
 }
 
+// The two longest calls, apart: among the numbers of both states their steps would need the more stack.
+#[inline(never)]
+fn noted(s: Instrument, note: u8, velocity: f32, built: bool) -> Outcome<Instrument, Reply>
+    ensures { CallAs s (Call.note_on note velocity built) result }
+{
+    s.note_on(note, velocity, built)
+}
+
+#[inline(never)]
+fn planned(
+    s: Instrument,
+    frames: usize,
+    vibrato: f32,
+    filter: f32,
+    sine: f32,
+    curve: &mut [f32],
+) -> Outcome<Instrument, Reply>
+    ensures { PlannedAs s frames vibrato filter sine curve.old curve.new result }
+{
+    s.plan(frames, vibrato, filter, sine, curve)
+}
+
 // `built` is 0, or any other number for yes.
 pub fn cirstumbe_note_on(h: HostState, note: u8, velocity: f32, built: u32) -> HostOutcome
     ensures { HostCallAs h (Call.note_on note velocity (flag_of built)) result }
 {
-    hosted(&h, |s| s.note_on(note, velocity, built != 0))
+    hosted(&h, |s| noted(s, note, velocity, built != 0))
 }
 
 pub fn cirstumbe_note_off(h: HostState, note: u8) -> HostOutcome
@@ -324,7 +347,7 @@ pub fn cirstumbe_plan(
     if !h.is_numbered() {
         return refused(&h, Refusal::Malformed);
     }
-    let made = h.state().plan(frames, vibrato, filter, tremolo_sine, curve);
+    let made = planned(h.state(), frames, vibrato, filter, tremolo_sine, curve);
     outcome(&h, &made)
 }
 

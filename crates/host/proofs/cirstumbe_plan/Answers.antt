@@ -12,5 +12,5 @@ pub returns : goal.returns
 returns c =
     let k : numbered c.args.h ≡ true = search (rules, tests) in
     let from = c.state.ensures in
-    let p = c.plan-made.ensures in
+    let p = c.planned-made.ensures in
     record { call = hosted _ _ k from _ _ _ _ _ p.call c.outcome.ensures; lent = p.lent ∙ same-lent _ _ k from _ }
