@@ -7,10 +7,11 @@ ghost use Rattle.model.specs.Types.{Control, Call};
 ghost use Rattle.model.specs.Queries.{is_active, active_voices};
 ghost use Rattle.outcome.specs.Numbers.{number_of};
 ghost use Rattle.instrument.specs.Calls.{reply_of, CallAs};
+ghost use Rattle.instrument.specs.declared.Instrument.{Instrument};
 ghost use Rattle.instrument.specs.Asked.{active_of, voices_of, handle_of};
 ghost use Rattle.instrument.specs.Plans.{PlannedAs};
 ghost use Rattle.instrument.specs.Mixes.{mix_reply_of};
-ghost use Rattle.wire.specs.Reads.{flag_of, model_of};
+ghost use Rattle.wire.specs.Reads.{flag_of, model_of, ReadFrom};
 ghost use Rattle.host.specs.Said.{saying, kind_of, refusing, said_of, report_of, said_start, said_answer};
 ghost use Rattle.host.specs.Hosted.{Hosts, Makes, AskedBy, BegunAs, HostCallAs, HostPlanAs, HostMixAs, HostStartAs, HostVoiceAs, host_asked};
 
@@ -217,6 +218,17 @@ fn refused(h: &HostState, refusal: Refusal) -> HostOutcome
     }
 }
 
+#[inline(always)]
+fn called<F: FnOnce(Instrument) -> Outcome<Instrument, Reply>>(
+    h: &HostState,
+    call: F,
+) -> Outcome<Instrument, Reply>
+    requires { F.IsAlwaysCallable call }
+    ensures { (s : Instrument) × ReadFrom h.now s × F.post call s result }
+{
+    call(h.state())
+}
+
 // The call on the state that the numbers stand for; numbers that stand for none are refused.
 #[inline(always)]
 fn hosted<F: FnOnce(Instrument) -> Outcome<Instrument, Reply>>(h: &HostState, call: F) -> HostOutcome
@@ -226,7 +238,7 @@ fn hosted<F: FnOnce(Instrument) -> Outcome<Instrument, Reply>>(h: &HostState, ca
     if !h.is_numbered() {
         return refused(h, Refusal::Malformed);
     }
-    outcome(h, &call(h.state()))
+    outcome(h, &called(h, call))
 }
 
 // As `hosted`, for a query.

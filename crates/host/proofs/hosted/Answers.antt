@@ -11,4 +11,5 @@ returns-then-not-is_numbered g c = λ call made.
 pub returns : goal.returns
 returns g c = λ call made.
     let k : numbered c.args.h.now ≡ true = search (rules, tests) in
-    hosted _ _ k c.state.ensures call _ _ _ _ (made _ _ c.call.ensures) c.outcome.ensures
+    let m = c.called.ensures in
+    hosted _ _ k m.1 call _ _ _ _ (made _ _ m.2) c.outcome.ensures
