@@ -6,7 +6,7 @@ ghost use Rattle.std.specs.Prelude.{◌≡◌, Ok, replicate};
 ghost use Rattle.model.specs.Types.{Control, Call};
 ghost use Rattle.model.specs.Queries.{is_active, active_voices};
 ghost use Rattle.outcome.specs.Numbers.{number_of};
-ghost use Rattle.instrument.specs.Calls.{reply_of, CallAs};
+ghost use Rattle.instrument.specs.Calls.{reply_of};
 ghost use Rattle.instrument.specs.declared.Instrument.{Instrument};
 ghost use Rattle.instrument.specs.Asked.{active_of, voices_of, handle_of};
 ghost use Rattle.instrument.specs.Plans.{PlannedAs};
@@ -279,12 +279,15 @@ pub fn cirstumbe_new(design: HostDesign) -> HostOutcome
     })
 }
 
-// The two longest calls, apart: among the numbers of both states their steps would need the more stack.
+// A note-on, as `hosted` has the other calls. Apart, since it needs the most stack: with a closure it needs more.
 #[inline(never)]
-fn noted(s: Instrument, note: u8, velocity: f32, built: bool) -> Outcome<Instrument, Reply>
-    ensures { CallAs s (Call.note_on note velocity built) result }
+fn noted(h: &HostState, note: u8, velocity: f32, built: bool) -> HostOutcome
+    ensures { HostCallAs h.now (Call.note_on note velocity built) result }
 {
-    s.note_on(note, velocity, built)
+    if !h.is_numbered() {
+        return refused(h, Refusal::Malformed);
+    }
+    outcome(h, &h.state().note_on(note, velocity, built))
 }
 
 #[inline(never)]
@@ -305,7 +308,7 @@ fn planned(
 pub fn cirstumbe_note_on(h: HostState, note: u8, velocity: f32, built: u32) -> HostOutcome
     ensures { HostCallAs h (Call.note_on note velocity (flag_of built)) result }
 {
-    hosted(&h, |s| noted(s, note, velocity, built != 0))
+    noted(&h, note, velocity, built != 0)
 }
 
 pub fn cirstumbe_note_off(h: HostState, note: u8) -> HostOutcome
