@@ -177,11 +177,10 @@ pub fn add_voice(
 
 // The voice with another envelope.
 #[tactic(auto, unfolding(crate::specs::Mixes::with_env))]
-pub fn with_env(mut v: Voice, env: EnvGen) -> Voice
+pub fn with_env(v: Voice, env: EnvGen) -> Voice
     ensures { result ≡ with_env v env }
 {
-    v.env = env;
-    v
+    Voice { env, ..v }
 }
 
 // The sums of each side, left before right. By index: of what goes through `chunks_exact_mut` a proof knows nothing.

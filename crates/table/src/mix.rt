@@ -40,7 +40,7 @@ impl Table {
             let v = self.voices[i];
             let env = render::add_voice(v, n, trem, samples, at, left, right);
             at = (at + n * v.copies_shown()).min(samples.len());
-            self.voices[i] = render::with_env(self.voices[i], env);
+            self.voices[i].env = env;
             if !render::goes_on(env) {
                 report(v.handle, gone, ended);
                 gone += 1;

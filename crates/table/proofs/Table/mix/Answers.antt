@@ -5,6 +5,7 @@ use borrow.Author.Rules.{rules}
 use lib.ListN.{length, get_or}
 use Rattle.lists.specs.Pass.{pass-read}
 use Rattle.voice.proofs.Sizes.{past_end}
+use Rattle.render.specs.Mixes.{with_env}
 use Rattle.table.proofs.Sizes.{voices-long}
 use Rattle.table.proofs.Mixing.{UnderWay, mixed_to, mix-start, mix-here, mix-up, mix-not, mixed-more}
 use Rattle.table.proofs.Table.mix.Goals as goal
@@ -14,6 +15,7 @@ pub loop-i-init : goal.loop-i-init
 loop-i-init c = (search rules, refl, refl, mix-start _ _ _ _ _)
 
 pub loop-i-preserved : goal.loop-i-preserved
+unfolding with_env
 loop-i-preserved c =
     let x = c.args in
     let long = voices-long x.self c.well_formed.0 in
@@ -22,9 +24,9 @@ loop-i-preserved c =
     let u = i.3 in
     let v = get_or c.loop-i.self.voices c.loop-i.i past_end in
     let m = c.min-at.ensures in
-    let w = c.with_env.ensures in
     let r = c.copies_shown.ensures.1 in
     let e = c.add_voice-env.ensures in
+    let w : with_env v c.add_voice-env.result ≡ with_env v c.add_voice-env.result = refl in
     let sums = c.add_voice-env.new in
     let n = c.min-n.result in
     let inside : c.loop-i.i < min x.self.count 64 = omega (arith, c.loop-i-test.true, c.min-count.ensures) in
