@@ -231,7 +231,10 @@ fn called<F: FnOnce(Instrument) -> Outcome<Instrument, Reply>>(
 
 // The call on the state that the numbers stand for; numbers that stand for none are refused.
 #[inline(always)]
-fn hosted<F: FnOnce(Instrument) -> Outcome<Instrument, Reply>>(h: &HostState, call: F) -> HostOutcome
+fn hosted<F: FnOnce(Instrument) -> Outcome<Instrument, Reply>>(
+    h: &HostState,
+    call: F,
+) -> HostOutcome
     requires { F.IsAlwaysCallable call }
     ensures { (c : Call) → Makes (F.post call) c → HostCallAs h.now c result }
 {
