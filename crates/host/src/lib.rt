@@ -193,8 +193,8 @@ impl From<Result<Option<u64>, Refusal>> for HostReply {
     }
 }
 
-// The very numbers given on a refusal, else those of the next state. Here and below by reference, which spares copies of
-// all the numbers.
+// The very numbers given on a refusal, else those of the next state. Here and below by reference, and
+// inlined where nothing else is said: each spares copies of all the numbers.
 #[inline(always)]
 fn outcome(h: &HostState, made: &Outcome<Instrument, Reply>) -> HostOutcome
     ensures { Hosts h.now (reply_of made.now.reply) made.now.state result.reply result.state }
@@ -218,6 +218,7 @@ fn refused(h: &HostState, refusal: Refusal) -> HostOutcome
     }
 }
 
+// By itself, so that the state that was read needs no stack behind the call.
 #[inline(always)]
 fn called<F: FnOnce(Instrument) -> Outcome<Instrument, Reply>>(
     h: &HostState,
@@ -293,6 +294,7 @@ fn noted(h: &HostState, note: u8, velocity: f32, built: bool) -> HostOutcome
     outcome(h, &h.state().note_on(note, velocity, built))
 }
 
+// Plan's steps, apart for the stack too.
 #[inline(never)]
 fn planned(
     s: Instrument,

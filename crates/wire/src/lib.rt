@@ -225,6 +225,7 @@ impl From<HostCopy> for UnisonCopy {
 impl From<HostVoice> for Voice {
     ghost from_gives = { λ h v. seen v ≡ seen_of h };
 
+    // Inlined, so that `first_made` makes each voice where it stands; the way back too.
     #[inline(always)]
     fn from(h: HostVoice) -> Voice {
         Voice {

@@ -50,6 +50,7 @@ impl HostVoice {
 
 impl HostState {
     // Whether every count lies within its array, and every number up to the counts names a mode, a stage, or yes or no.
+    // Not inlined, since its caller would copy the numbers for it.
     #[tactic(auto, unfolding(crate::specs::Reads::numbered))]
     #[inline(never)]
     pub fn is_numbered(&self) -> bool
