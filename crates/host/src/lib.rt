@@ -283,17 +283,6 @@ pub fn cirstumbe_new(design: HostDesign) -> HostOutcome
     })
 }
 
-// A note-on, as `hosted` has the other calls. Apart, since it needs the most stack: with a closure it needs more.
-#[inline(never)]
-fn noted(h: &HostState, note: u8, velocity: f32, built: bool) -> HostOutcome
-    ensures { HostCallAs h.now (Call.note_on note velocity built) result }
-{
-    if !h.is_numbered() {
-        return refused(h, Refusal::Malformed);
-    }
-    outcome(h, &h.state().note_on(note, velocity, built))
-}
-
 // Plan's steps, apart for the stack too.
 #[inline(never)]
 fn planned(
@@ -313,7 +302,7 @@ fn planned(
 pub fn cirstumbe_note_on(h: HostState, note: u8, velocity: f32, built: u32) -> HostOutcome
     ensures { HostCallAs h (Call.note_on note velocity (flag_of built)) result }
 {
-    noted(&h, note, velocity, built != 0)
+    hosted(&h, |s| s.note_on(note, velocity, built != 0))
 }
 
 pub fn cirstumbe_note_off(h: HostState, note: u8) -> HostOutcome

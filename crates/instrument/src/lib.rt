@@ -280,7 +280,9 @@ impl Instrument {
         )
     }
 
-    // Mono: the voice that sounds goes on with the note, else a new one is due.
+    // Mono: the voice that sounds goes on with the note, else a new one is due. Never inlined: its copies of the state
+    // would need stack in each note-on.
+    #[inline(never)]
     fn mono_note_on(
         mut self,
         note: u8,
