@@ -2,13 +2,13 @@
 use Rattle.std.specs.Prelude.{Result, Ok, Err}
 use mathlib.Core.Path.{◌≡◌, refl, ap, sym, ◌∙◌}
 use mathlib.Core.Bool.{Bool, true, false}
-use mathlib.Core.List.{List, map}
-use Prim.Native.Nat.{ℕ, ◌≤◌}
+use mathlib.Core.List.{List, [], ◌∷◌, map}
+use Prim.Native.Nat.{ℕ, ◌-◌, ◌≤◌}
 use native.Mathlib.Omega.{arith}
 use borrow.Author.Tests.{leb-true, le-leb, eq-eqb, ne_eqb, eqb-true}
 use lib.Dec.{leb, eqb}
 use lib.Ieee.{Float}
-use lib.ListN.{length, length-map, length-set, length-take}
+use lib.ListN.{length, get_or, length-map, length-set, length-take}
 use Rattle.lists.specs.Choose.{both, cond-true, cond-false}
 use Rattle.outcome.specs.declared.Refusal.{Refusal}
 use Rattle.outcome.specs.declared.Refusal.TheVariants.{
@@ -63,6 +63,25 @@ some-number LentLength = omega arith
 some-number NoHandleLeft = omega arith
 some-number NoSuchPlace = omega arith
 some-number CutShort = omega arith
+
+abbrev refusals : List Refusal
+refusals = Malformed ∷ OutsideLimits ∷ NotFinite ∷ Frames ∷ BlockOpen ∷ NoBlock ∷ LentLength ∷ NoHandleLeft ∷ NoSuchPlace ∷ CutShort ∷ []
+
+-- the refusal of a number
+abbrev pub refusal_from : ℕ → Refusal
+refusal_from n = get_or refusals (n - 1) Malformed
+
+pub refusal-back : (r : Refusal) → refusal_from (number_of r) ≡ r
+refusal-back Malformed = refl
+refusal-back OutsideLimits = refl
+refusal-back NotFinite = refl
+refusal-back Frames = refl
+refusal-back BlockOpen = refl
+refusal-back NoBlock = refl
+refusal-back LentLength = refl
+refusal-back NoHandleLeft = refl
+refusal-back NoSuchPlace = refl
+refusal-back CutShort = refl
 
 -- 0 where a check passes
 abbrev pub number_in : Result (Unit {0}) Refusal → ℕ

@@ -4,30 +4,16 @@ use Rattle.std.proofs.Props.{props}
 use Rattle.std.specs.declared.num.NonZeroU64.{NonZeroU64}
 use mathlib.Core.Path.{◌≡◌, refl, ap, sym, ◌∙◌}
 use mathlib.Core.Bool.{Bool, true, false}
-use mathlib.Core.List.{List, [], ◌∷◌}
-use Prim.Native.Nat.{ℕ, ◌-◌, ◌<◌}
+use Prim.Native.Nat.{ℕ, ◌<◌}
 use native.Mathlib.Omega.{arith}
 use borrow.Author.Tests.{ltb-true, ltb-false}
 use lib.Dec.{ltb}
-use lib.ListN.{get_or}
 use Rattle.outcome.specs.declared.Refusal.{Refusal}
-use Rattle.outcome.specs.declared.Refusal.TheVariants.{
-  Malformed,
-  OutsideLimits,
-  NotFinite,
-  Frames,
-  BlockOpen,
-  NoBlock,
-  LentLength,
-  NoHandleLeft,
-  NoSuchPlace,
-  CutShort,
-}
-use Rattle.outcome.specs.Numbers.{number_of}
 use Rattle.model.specs.Types as M
 use Rattle.instrument.specs.Calls.{handle_or_none, reply_of, RepliesTold}
 use Rattle.instrument.specs.declared.Reply.{Reply}
 use Rattle.instrument.specs.declared.Reply.TheVariants.{Started, Silent, Kept, Off, Done, Released, Planned}
+use Rattle.instrument.proofs.Calls.{refusal_from, refusal-back}
 
 abbrev handle_by : (n : ℕ) (b : Bool) → ltb 0 n ≡ b → Option NonZeroU64
 handle_by n true e = Some (record { value = n; ok = ltb-true 0 n e })
@@ -45,21 +31,6 @@ handle-back (Some x) = by (ltb 0 x.value) refl
     by true e = let once : IsProp (0 < x.value) = hlevel props in ap (λ (p : 0 < x.value). Some (record { value = x.value; ok = p })) (once _ _)
     by false e = let f = ltb-false 0 x.value e in let o = x.ok in let z : ⊥ = omega arith in absurd z
 
-abbrev refusals : List Refusal
-refusals = Malformed ∷ OutsideLimits ∷ NotFinite ∷ Frames ∷ BlockOpen ∷ NoBlock ∷ LentLength ∷ NoHandleLeft ∷ NoSuchPlace ∷ CutShort ∷ []
-
-refusal-back : (r : Refusal) → get_or refusals (number_of r - 1) Malformed ≡ r
-refusal-back Malformed = refl
-refusal-back OutsideLimits = refl
-refusal-back NotFinite = refl
-refusal-back Frames = refl
-refusal-back BlockOpen = refl
-refusal-back NoBlock = refl
-refusal-back LentLength = refl
-refusal-back NoHandleLeft = refl
-refusal-back NoSuchPlace = refl
-refusal-back CutShort = refl
-
 -- Mix has a report of its own
 abbrev reply_from : M.Reply → Result Reply Refusal
 reply_from (M.Reply.started handle killed taken) = Ok (Started handle (handle_from killed) (handle_from taken))
@@ -70,7 +41,7 @@ reply_from M.Reply.done = Ok Done
 reply_from (M.Reply.released found) = Ok (Released found)
 reply_from M.Reply.planned = Ok Planned
 reply_from (M.Reply.mixed count ended) = Ok Done
-reply_from (M.Reply.refused n) = Err (get_or refusals (n - 1) Malformed)
+reply_from (M.Reply.refused n) = Err (refusal_from n)
 
 reply-back : (r : Result Reply Refusal) → reply_from (reply_of r) ≡ r
 reply-back (Ok (Started handle killed taken)) = rw (handle-back killed, handle-back taken) refl

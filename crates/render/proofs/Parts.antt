@@ -178,11 +178,15 @@ module _ (n : ℕ) (trem : Float) (xs : List Float) (v : model.Voice) (left₀ r
 
 -- as the code goes on: by the levels that `fill_all` leaves of 64 numbers, over the copies that count
 module _ (v : Voice) (trem : Float) (xs left₀ right₀ : List Float) where
+  -- one side's sums with copies gone in from frame a on, by the levels of a part
+  abbrev copied : ℕ → List Float → List UnisonCopy → (UnisonCopy → Float) → List Float → List Float
+  copied a es cs side sums = (fold (part_copy side (length left₀) (length es) es) (mixing (drop a xs) sums) cs).sums
+
   pub went_on : (a b k : ℕ) (e next : EnvGen) (es part left right new_left new_right : List Float) → a ≤ b → b ≤ a + 64 → b ≤ length left₀
       → SidesFit v xs left₀ right₀ → k ≡ length (shown v).copies
       → length es ≡ 64 → length part ≡ length (take (b - a) es) → FilledAll e v.gain trem (take (b - a) es) part next
       → length new_left ≡ length (take (b - a) (drop a left)) → length new_right ≡ length (take (b - a) (drop a right))
-      → BothSides (λ (side : UnisonCopy → Float) sums. (fold (part_copy side (length left₀) (length (take (b - a) (part ++ drop (b - a) es))) (take (b - a) (part ++ drop (b - a) es))) (mixing (drop a xs) sums) (take k v.copies)).sums)
+      → BothSides (copied a (take (b - a) (part ++ drop (b - a) es)) (take k v.copies))
       on_left on_right (take (b - a) (drop a left)) (take (b - a) (drop a right)) new_left new_right
       → Went (length left₀) trem xs (shown v) left₀ right₀ a e left right
       → Went (length left₀) trem xs (shown v) left₀ right₀ b next (take a left ++ (new_left ++ drop (b - a) (drop a left))) (take a right ++ (new_right ++ drop (b - a) (drop a right)))
